@@ -1,0 +1,3 @@
+pub mod Finds
+pub mod Passing
+pub mod PassingNames

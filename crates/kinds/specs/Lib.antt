@@ -1,0 +1,5 @@
+pub mod Counters
+pub mod Groups
+pub mod Kinds
+pub mod Roles
+pub mod Rows

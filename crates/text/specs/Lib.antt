@@ -1,0 +1,4 @@
+pub mod Numbers
+pub mod Sized
+pub mod Texts
+pub mod Wrote
