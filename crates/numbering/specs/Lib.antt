@@ -1,0 +1,3 @@
+pub mod Plans
+pub mod Numbers
+pub mod Lists

@@ -1,0 +1,4 @@
+pub mod Heads
+pub mod Operands
+pub mod OpcodeText
+pub mod Rest
