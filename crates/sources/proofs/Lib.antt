@@ -1,0 +1,4 @@
+pub mod Fetched
+mod Fronts
+pub mod Layers
+pub mod Shelves

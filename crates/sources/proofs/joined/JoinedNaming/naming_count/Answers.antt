@@ -1,0 +1,6 @@
+use borrow.Author.Needs.{needs}
+use Rattle.sources.proofs.Layers.{length-chained}
+use Rattle.sources.proofs.joined.JoinedNaming.naming_count.Needs as need
+
+pub returns : need.returns
+returns g c = search (needs, length-chained)
