@@ -54,7 +54,7 @@ pub fn count_like<S: NamingSource>(source: &S, opcode: u16, letters: usize) -> u
 }
 
 // The same in a window over the front matter and then a shelf.
-pub fn count_in_book(
+pub fn count_in_archive(
     rows: &[FormRow],
     namings: &[NamingRow],
     from: u32,
@@ -65,12 +65,12 @@ pub fn count_in_book(
     ensures { λ r. ⌜ r ≡ alike opcode letters (cut (chained front-forms (shelf-forms (now (rows .entry)) (now (namings .entry)))) from to) (cut (chained front-names (shelf-names (now (rows .entry)) (now (namings .entry)))) from to) ⌝ }
 {
     let shelf = Shelf::new(rows, namings);
-    let book = Joined {
+    let archive = Joined {
         first: FrontMatter,
         second: &shelf,
     };
     let part = Window {
-        source: &book,
+        source: &archive,
         from,
         to,
     };
@@ -268,7 +268,7 @@ mod tests {
     }
 
     #[test]
-    fn a_book_begins_with_the_front_matter() -> Result<(), Fail> {
+    fn an_archive_begins_with_the_front_matter() -> Result<(), Fail> {
         let rows = five_rows();
         let names = five_names();
         stands(&FrontMatter, 5, 0, 10)?;
@@ -283,7 +283,7 @@ mod tests {
         ];
         for (from, to, opcode, letters, count) in cases {
             check_eq(
-                count_in_book(&rows, &names, from, to, opcode, letters),
+                count_in_archive(&rows, &names, from, to, opcode, letters),
                 count,
             )?;
         }
