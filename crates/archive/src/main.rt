@@ -1,4 +1,6 @@
 // Runs a job from standard input: rows of instruction forms, and commands over them. Answers go to standard output.
+#![tactic(auto)]
+
 mod archive;
 mod check;
 mod job;

@@ -1,4 +1,6 @@
 // Instruction forms: plain rows that may hold anything, and the descriptions and namings made of rows that pass every check.
+#![tactic(auto)]
+
 mod check;
 pub mod codes;
 pub mod description;

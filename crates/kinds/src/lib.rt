@@ -1,4 +1,6 @@
 // The operand kinds: their numbers, how each is printed, and its part in the opcode string.
+#![tactic(auto)]
+
 mod counter;
 mod kind;
 mod named;

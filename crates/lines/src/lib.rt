@@ -1,4 +1,6 @@
 // The two texts of a row, whole: what is printed of it where it passes the checks.
+#![tactic(auto)]
+
 mod check;
 mod texts;
 

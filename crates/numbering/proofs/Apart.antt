@@ -1,7 +1,7 @@
 -- Numbers by a rule that takes no value twice are distinct. Assumes nothing.
 use Rattle.std.proofs.Common.{◌≡◌, ℕ, ◌+◌, ◌<◌, ◌≤◌, Bool, true, false, cond, List, [], ◌∷◌, Some, None, Option, ◌∙◌, subst, add-zero, arith}
 use mathlib.Core.Path.{subst⁻¹}
-use Rattle.std.specs.List.{AllByRecursion as All}
+use Rattle.std.specs.List.{AllByRecursion}
 use Rattle.std.proofs.lemmas.Bool.Decides.{nat_tests}
 use Rattle.numbering.specs.Lists.{Distinct, Runs}
 use Rattle.numbering.specs.Numbers.{swapped, mask_number}
@@ -13,7 +13,7 @@ Rises f low (x ∷ xs) = (i : ℕ) × (low ≤ i) × (x ≡ f i) × Rises f (i +
 
 -- rising elements of a function that takes no value twice are distinct
 module _ {X : Type 0} (f : ℕ → X) (one : (i j : ℕ) → f i ≡ f j → i ≡ j) where
-  away : (i low : ℕ) (xs : List X) → i < low → Rises f low xs → All (λ y. f i ≡ y → ⊥) xs
+  away : (i low : ℕ) (xs : List X) → i < low → Rises f low xs → AllByRecursion (λ y. f i ≡ y → ⊥) xs
   away i low [] h r = tt
   away i low (x ∷ xs) h (j, le, e, r) =
       ((λ q. let p : i ≡ j = one i j (q ∙ e) in omega arith), away i (j + 1) xs (omega arith) r)
@@ -21,7 +21,7 @@ module _ {X : Type 0} (f : ℕ → X) (one : (i j : ℕ) → f i ≡ f j → i �
   pub distinct : (low : ℕ) (xs : List X) → Rises f low xs → Distinct xs
   distinct low [] r = tt
   distinct low (x ∷ xs) (i, le, e, r) =
-      (subst⁻¹ (λ (z : X). All (λ y. z ≡ y → ⊥) xs) e (away i (i + 1) xs (omega arith) r), distinct (i + 1) xs r)
+      (subst⁻¹ (λ (z : X). AllByRecursion (λ y. z ≡ y → ⊥) xs) e (away i (i + 1) xs (omega arith) r), distinct (i + 1) xs r)
 
 module _ {X : Type 0} (f : ℕ → X) where
   pub lower : (low high : ℕ) (xs : List X) → low ≤ high → Rises f high xs → Rises f low xs

@@ -1,4 +1,6 @@
 // The opcode string of an instruction form: its parts in the order in which they are read.
+#![tactic(auto)]
+
 mod format;
 mod legacy;
 mod modrm;

@@ -1,5 +1,7 @@
 // Replays stored answers: rows, each followed by the two texts that the Rust formatters print of it. Says which of ours
 // differ, and how many.
+#![tactic(auto)]
+
 mod replay;
 
 use jobs::command::Command;

@@ -1,4 +1,6 @@
 // Nine sample forms, whose texts are proved letter by letter.
+#![tactic(auto)]
+
 ghost use Rattle.std.specs.Prelude.{◌≡◌};
 ghost use Rattle.samples.specs.Samples.{SampleTexts};
 

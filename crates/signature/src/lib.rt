@@ -1,4 +1,6 @@
 // The signature of a form: its mnemonic and its operands, with the numbers and letters that tell its registers apart.
+#![tactic(auto)]
+
 mod counts;
 mod number;
 mod print;

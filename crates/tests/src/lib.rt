@@ -1,4 +1,6 @@
 // Tests over the library's crates, one file for each subject.
+#![tactic(auto)]
+
 pub mod checks;
 pub mod sources;
 pub mod writing;

@@ -52,7 +52,7 @@ pub fn read_decimal(t: &[u8]) -> Option<u32>
 fn is_minus_one(t: &[u8]) -> bool
     ensures { result ≡ bytes_eq t.now (codes "-1") }
 {
-    t == b"-1"
+    t == b"-1".as_slice()
 }
 
 // The same, or `-1`.

@@ -3,8 +3,8 @@ use Rattle.std.proofs.lemmas.List.{at_drop_more, at_drop_all}
 use Rattle.forms.specs.Checks.{all_in_set}
 use Rattle.forms.proofs.check.all_in_set.Goals as goal
 
-pub returns-then-not-in-set : goal.returns-then-not-in-set
-returns-then-not-in-set c =
+pub returns-then-not-in_set : goal.returns-then-not-in_set
+returns-then-not-in_set c =
     let step = at_drop_more all_in_set c.args.text.now c.loop-b.b-index 0 c.loop-b-test.true in
     grind arith
 

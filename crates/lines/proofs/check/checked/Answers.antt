@@ -3,21 +3,21 @@ use Rattle.forms.specs.Names.{named}
 use Rattle.lines.specs.Checked.{both}
 use Rattle.lines.proofs.check.checked.Goals as goal
 
-pub returns-in-err-description : goal.returns-in-err-description
-returns-in-err-description c =
-    let form = c.in-err-description.ensures in
-    let p = err_from_is_err_and c.from-residual.result c.from-residual.ensures.1 in
+pub returns-in_err-description : goal.returns-in_err-description
+returns-in_err-description c =
+    let form = c.in_err-description.ensures in
+    let p = err_from_is_err_and c.from_residual.result c.from_residual.ensures.1 in
     rw (p.1, p.2) (λ i. both (form i) (named c.args.naming.now))
 
-pub returns-in-err-naming : goal.returns-in-err-naming
-returns-in-err-naming c =
-    let form = c.in-ok-description.ensures in
-    let name = c.in-err-naming.ensures in
-    let p = err_from_is_err_and c.from-residual-in-err-naming.result c.from-residual-in-err-naming.ensures.1 in
+pub returns-in_err-naming : goal.returns-in_err-naming
+returns-in_err-naming c =
+    let form = c.in_ok-description.ensures in
+    let name = c.in_err-naming.ensures in
+    let p = err_from_is_err_and c.from_residual-in_err-naming.result c.from_residual-in_err-naming.ensures.1 in
     rw (p.1, p.2) (λ i. both (form i) (name i))
 
 pub returns : goal.returns
 returns c =
-    let form = c.in-ok-description.ensures in
-    let name = c.in-ok-naming.ensures in
+    let form = c.in_ok-description.ensures in
+    let name = c.in_ok-naming.ensures in
     λ i. both (form i) (name i)

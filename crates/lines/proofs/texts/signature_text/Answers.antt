@@ -4,5 +4,5 @@ use Rattle.lines.proofs.texts.signature_text.Goals as goal
 
 pub returns : goal.returns
 returns c =
-    let printer = c.print-signature.ensures in
+    let printer = c.print_signature.ensures in
     printed c.written-used.result printer.wrote c.new-w.ensures.2 (omega (arith, printer.line.short)) c.written-used.ensures

@@ -8,7 +8,7 @@ pub returns-in-Some : goal.returns-in-Some
 returns-in-Some c = sym (c.loop-kind.invariant ∙ first_at c.args.operands.now c.loop-kind.kind-index _ (omega arith) _ (Some c.in-Some.width) c.role.ensures c.in-Some.ensures)
 
 pub loop-kind-preserved : goal.loop-kind-preserved
-loop-kind-preserved c = c.loop-kind.invariant ∙ first_at c.args.operands.now c.loop-kind.kind-index _ (omega arith) _ None c.role.ensures c.in-default.ensures
+loop-kind-preserved c = c.loop-kind.invariant ∙ first_at c.args.operands.now c.loop-kind.kind-index _ (omega arith) _ None c.role.ensures c.in_default.ensures
 
 pub returns : goal.returns
 returns c = sym (c.loop-kind.invariant ∙ at_drop_all first_register c.args.operands.now c.loop-kind.kind-index (omega arith))

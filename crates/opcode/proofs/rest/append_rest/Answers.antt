@@ -1,8 +1,8 @@
 use Rattle.text.proofs.Writes.{then, stops}
 use Rattle.opcode.proofs.rest.append_rest.Goals as goal
 
-pub returns-in-err-append-modrm : goal.returns-in-err-append-modrm
-returns-in-err-append-modrm c = stops _ c.in-err-append-modrm.ensures c.from-residual.ensures.1
+pub returns-in_err-append_modrm : goal.returns-in_err-append_modrm
+returns-in_err-append_modrm c = stops _ c.in_err-append_modrm.ensures c.from_residual.ensures.1
 
 pub returns : goal.returns
-returns c = then _ c.in-ok-append-modrm.ensures c.append-suffixes.ensures
+returns c = then _ c.in_ok-append_modrm.ensures c.append_suffixes.ensures

@@ -10,7 +10,7 @@ returns c =
     let n = c.args.naming.now in
     let line = Line-signature_text (form_in d) (name_in n) (few_operands (form_in d) d.passed) n.passed in
     record {
-      wrote = c.print-text.ensures;
+      wrote = c.print_text.ensures;
       differ = numbers_differ (form_in d) (name_in n);
       line = line.0;
       some = line.1;

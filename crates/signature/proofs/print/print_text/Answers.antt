@@ -25,27 +25,27 @@ as_given f n {s} {m} {option} {first} {ks} is_s is_b left is_m is_o is_first is_
     walk_whole f n (ap (λ x. is_pseudo x.tag) (sym is_s) ∙ sym is_b ∙ left)
     ∙ (λ i. (upper_text (sym is_m i) ++ when (ltb 0 (length (sym kinds i))) (codes " ")) ++ spelled (sym is_s i) (walk (sym is_s i) [] false (sym start i) (sym kinds i)))
 
-pub returns-then-is-pseudo : goal.returns-then-is-pseudo
-returns-then-is-pseudo c =
-    let tag = ap (λ s. s.tag) c.setting-of-setting.ensures in
-    Wrote_as _ c.print-pseudo.ensures
-    (pseudo_whole (form_in c.args.description.now) (name_in c.args.naming.now) (ap is_pseudo (sym tag) ∙ sym c.if-is-pseudo.ensures) ∙ ap pseudo_text (sym tag))
+pub returns-then-is_pseudo : goal.returns-then-is_pseudo
+returns-then-is_pseudo c =
+    let tag = ap (λ s. s.tag) c.setting_of-setting.ensures in
+    Wrote_as _ c.print_pseudo.ensures
+    (pseudo_whole (form_in c.args.description.now) (name_in c.args.naming.now) (ap is_pseudo (sym tag) ∙ sym c.if-is_pseudo.ensures) ∙ ap pseudo_text (sym tag))
 
-pub returns-in-err-print : goal.returns-in-err-print
-returns-in-err-print c =
-    stops_as _ _ c.in-err-print.ensures c.from-residual.ensures.1
-    (as_given (form_in c.args.description.now) (name_in c.args.naming.now) c.setting-of-setting.ensures c.is_pseudo.ensures c.if-is-pseudo.false c.mnemonic.ensures c.option-option.ensures refl c.walked-kinds.ensures)
+pub returns-in_err-print : goal.returns-in_err-print
+returns-in_err-print c =
+    stops_as _ _ c.in_err-print.ensures c.from_residual.ensures.1
+    (as_given (form_in c.args.description.now) (name_in c.args.naming.now) c.setting_of-setting.ensures c.is_pseudo.ensures c.if-is_pseudo.false c.mnemonic.ensures c.option-option.ensures refl c.walked-kinds.ensures)
 
-pub print-operands-requires : goal.print-operands-requires
-print-operands-requires c =
+pub print_operands-requires : goal.print_operands-requires
+print_operands-requires c =
     let f = form_in c.args.description.now in
     let few = few_walked f c.option-option.result (few_operands f c.args.description.now.passed) in
     record {
       few = subst (λ ks. length ks ≤ 5) (sym c.walked-kinds.ensures) few;
-      near = c.start-of.ensures.near;
+      near = c.start_of.ensures.near;
     }
 
 pub returns : goal.returns
 returns c =
-    then_as _ c.in-ok-print.ensures c.print-operands.ensures
-    (as_given (form_in c.args.description.now) (name_in c.args.naming.now) c.setting-of-setting.ensures c.is_pseudo.ensures c.if-is-pseudo.false c.mnemonic.ensures c.option-option.ensures c.start-of.ensures.value c.walked-kinds.ensures)
+    then_as _ c.in_ok-print.ensures c.print_operands.ensures
+    (as_given (form_in c.args.description.now) (name_in c.args.naming.now) c.setting_of-setting.ensures c.is_pseudo.ensures c.if-is_pseudo.false c.mnemonic.ensures c.option-option.ensures c.start_of.ensures.value c.walked-kinds.ensures)

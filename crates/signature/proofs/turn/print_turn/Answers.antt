@@ -20,12 +20,12 @@ returns c =
     let class_is = c.class-class.ensures in
     let counter : c.counter.result ≡ counter_at k = c.counter.ensures ∙ ap counter_of class_is in
     let plan = c.requires.planned in
-    let label : c.next-labels-label.result.0 ≡ label_of s.plan (counter_at k) (count_of (counter_at k) counts) c.args.place =
-    c.next-labels-label.ensures.label ∙ (λ i. label_of (plan i) (counter i) (count_of (counter i) counts) c.args.place) in
-    let number : c.next-labels-label.result.1 ≡ number_if (masked_at s c.args.place) (mask_number s.plan.swaps (bumped (counter_at k) counts).masks) =
-    c.next-labels-label.ensures.mask ∙ (λ i. number_if (c.masked-at-masked.ensures i) (mask_number (plan i).swaps (bumped (counter i) counts).masks)) in
+    let label : c.next_labels-label.result.0 ≡ label_of s.plan (counter_at k) (count_of (counter_at k) counts) c.args.place =
+    c.next_labels-label.ensures.label ∙ (λ i. label_of (plan i) (counter i) (count_of (counter i) counts) c.args.place) in
+    let number : c.next_labels-label.result.1 ≡ number_if (masked_at s c.args.place) (mask_number s.plan.swaps (bumped (counter_at k) counts).masks) =
+    c.next_labels-label.ensures.mask ∙ (λ i. number_if (c.masked_at-masked.ensures i) (mask_number (plan i).swaps (bumped (counter i) counts).masks)) in
     record {
-      wrote = Wrote_as _ c.print.ensures (turn_as s _ _ c.args.follows c.args.place k class_is label number (both_is s.flags.zeroing c.masked-at-masked.ensures c.both.ensures) (both_is s.flags.sae c.last-at-last.ensures c.both-2.ensures) (both_is s.flags.rounding c.last-at-last.ensures c.both-3.ensures));
-      counts = c.next-labels-label.ensures.counts ∙ (λ i. bumped_by (counter i ∷ cond (c.masked-at-masked.ensures i) (Counter.Mask ∷ []) []) counts);
-      plan = c.next-labels-label.ensures.plan;
+      wrote = Wrote_as _ c.print.ensures (turn_as s _ _ c.args.follows c.args.place k class_is label number (both_is s.flags.zeroing c.masked_at-masked.ensures c.both.ensures) (both_is s.flags.sae c.last_at-last.ensures c.both-2.ensures) (both_is s.flags.rounding c.last_at-last.ensures c.both-3.ensures));
+      counts = c.next_labels-label.ensures.counts ∙ (λ i. bumped_by (counter i ∷ cond (c.masked_at-masked.ensures i) (Counter.Mask ∷ []) []) counts);
+      plan = c.next_labels-label.ensures.plan;
     }

@@ -25,21 +25,21 @@ loop-i-init c = (
   c.new-numbering.ensures.0,
 )
 
-pub returns-in-err-print-turn : goal.returns-in-err-print-turn
-returns-in-err-print-turn c =
+pub returns-in_err-print_turn : goal.returns-in_err-print_turn
+returns-in_err-print_turn c =
     Walked_stop c.args.setting.now _ _ _ _ _ _ _ _ _
     (Walked_here c.args.setting.now _ _ _ _ _ _ c.args.kinds.now c.loop-i.i _ (omega arith) c.loop-i.invariant.0)
-    c.in-err-print-turn.ensures.wrote c.from-residual.ensures.1
+    c.in_err-print_turn.ensures.wrote c.from_residual.ensures.1
 
 pub loop-i-preserved : goal.loop-i-preserved
 loop-i-preserved c = (
-  Walked_as (ap not (sym c.is-seg-rdi-follows.ensures)) (omega arith)
-      (Walked_more c.args.setting.now _ _ _ _ _ _ _ _ _ c.print-turn.new.numbering.counts
+  Walked_as (ap not (sym c.is_seg_rdi-follows.ensures)) (omega arith)
+      (Walked_more c.args.setting.now _ _ _ _ _ _ _ _ _ c.print_turn.new.numbering.counts
       (Walked_here c.args.setting.now _ _ _ _ _ _ c.args.kinds.now c.loop-i.i _ (omega arith) c.loop-i.invariant.0)
-      c.in-ok-print-turn.ensures.wrote c.in-ok-print-turn.ensures.counts),
-  below_next c.args.setting.now _ _ c.loop-i.i c.in-ok-print-turn.ensures.counts c.loop-i.invariant.1,
-  c.in-ok-print-turn.ensures.plan ∙ c.loop-i.invariant.2,
+      c.in_ok-print_turn.ensures.wrote c.in_ok-print_turn.ensures.counts),
+  below_next c.args.setting.now _ _ c.loop-i.i c.in_ok-print_turn.ensures.counts c.loop-i.invariant.1,
+  c.in_ok-print_turn.ensures.plan ∙ c.loop-i.invariant.2,
 )
 
 pub returns : goal.returns
-returns c = Walked_all c.args.setting.now _ _ _ _ _ _ _ (Walked_end c.args.kinds.now c.loop-i.i (omega arith) c.loop-i.invariant.0) c.print-implied.ensures
+returns c = Walked_all c.args.setting.now _ _ _ _ _ _ _ (Walked_end c.args.kinds.now c.loop-i.i (omega arith) c.loop-i.invariant.0) c.print_implied.ensures

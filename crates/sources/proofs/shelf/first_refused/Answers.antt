@@ -13,5 +13,5 @@ returns-in-Some c =
 
 pub loop-i-preserved : goal.loop-i-preserved
 loop-i-preserved c =
-    let later = c.loop-i.invariant.0 ∙ refused_later c.args.rows.now c.args.namings.now c.loop-i.i _ _ (omega arith) (omega arith) c.in-default.ensures in
+    let later = c.loop-i.invariant.0 ∙ refused_later c.args.rows.now c.args.namings.now c.loop-i.i _ _ (omega arith) (omega arith) c.in_default.ensures in
     (later, λ h. later ∙ refused_none c.args.rows.now c.args.namings.now (c.loop-i.i + 1) h)

@@ -9,7 +9,7 @@ unreachable-requires-in-Err g c =
 
 pub loop-n-preserved : goal.loop-n-preserved
 loop-n-preserved g c =
-    let rest = alike_rest c.args.opcode c.args.letters (g.S.Source.list c.args.source.now) (g.S.NamingSource.names c.args.source.now) c.loop-n.n c.in-Ok.ensures c.in-Ok-fetch-naming.ensures.got in
+    let rest = alike_rest c.args.opcode c.args.letters (g.S.Source.list c.args.source.now) (g.S.NamingSource.names c.args.source.now) c.loop-n.n c.in-Ok.ensures c.in-Ok-fetch_naming.ensures.got in
     search rules
 
 pub returns : goal.returns

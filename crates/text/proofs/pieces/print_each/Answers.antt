@@ -10,11 +10,11 @@ next f xs i x h is = ap (flat_map f) (drop_more xs i x h) ∙ ap (λ y. f y ++ f
 pub loop-p-init : goal.loop-p-init
 loop-p-init g c = begun
 
-pub returns-in-err-print : goal.returns-in-err-print
-returns-in-err-print g c = Begun_stop _ c.loop-p.invariant c.in-err-print.ensures c.from-residual.ensures.1 (next g.P.Piece.spelled c.args.items.now c.loop-p.p-index c.p-item.result (omega arith) c.p-item.is)
+pub returns-in_err-print : goal.returns-in_err-print
+returns-in_err-print g c = Begun_stop _ c.loop-p.invariant c.in_err-print.ensures c.from_residual.ensures.1 (next g.P.Piece.spelled c.args.items.now c.loop-p.p-index c.p-item.result (omega arith) c.p-item.is)
 
 pub loop-p-preserved : goal.loop-p-preserved
-loop-p-preserved g c = Begun_more _ c.loop-p.invariant c.in-ok-print.ensures (next g.P.Piece.spelled c.args.items.now c.loop-p.p-index c.p-item.result (omega arith) c.p-item.is)
+loop-p-preserved g c = Begun_more _ c.loop-p.invariant c.in_ok-print.ensures (next g.P.Piece.spelled c.args.items.now c.loop-p.p-index c.p-item.result (omega arith) c.p-item.is)
 
 pub returns : goal.returns
 returns g c = Begun_all c.loop-p.invariant (ap (flat_map g.P.Piece.spelled) (drop_all c.loop-p.p-index c.args.items.now (omega arith)))

@@ -6,5 +6,5 @@ use Rattle.forms.proofs.description.Description.from_row.Goals as goal
 pub typed-requires : goal.typed-requires
 typed-requires c = in_sets c.args.row.now (sym c.in-None.ensures)
 
-pub invariant-of-result : goal.invariant-of-result
-invariant-of-result c = (subst Passed (sym c.typed.ensures) (Passed_row c.args.row.now (sym c.in-None.ensures)), tt)
+pub invariant_of-result : goal.invariant_of-result
+invariant_of-result c = record { passed = subst Passed (sym c.typed.ensures) (Passed_row c.args.row.now (sym c.in-None.ensures)) }

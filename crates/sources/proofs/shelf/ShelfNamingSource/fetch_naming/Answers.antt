@@ -9,13 +9,13 @@ returns-then-n-self c = search (rules, fetched_past, length_shelf)
 pub bounds-self-n : goal.bounds-self-n
 bounds-self-n c = search (rules, shelf_place)
 
-pub returns-in-err-from-row : goal.returns-in-err-from-row
-returns-in-err-from-row c =
-    absurd (name_passes c.args.self.now.rows.now c.args.self.now.namings.now c.args.n (omega arith) _ c.in-err-from-row.ensures)
+pub returns-in_err-from_row : goal.returns-in_err-from_row
+returns-in_err-from_row c =
+    absurd (name_passes c.args.self.now.rows.now c.args.self.now.namings.now c.args.n (omega arith) _ c.in_err-from_row.ensures)
 
 pub returns : goal.returns
 returns c =
     record {
-      got = name_here c.args.self.now.rows.now c.args.self.now.namings.now c.args.n (omega arith) _ c.in-ok-from-row.ensures;
+      got = name_here c.args.self.now.rows.now c.args.self.now.namings.now c.args.n (omega arith) _ c.in_ok-from_row.ensures;
       within = search rules;
     }

@@ -6,11 +6,11 @@ use Rattle.text.proofs.writer.Writer.text.Goals as goal
 pub loop-b-init : goal.loop-b-init
 loop-b-init c = begun
 
-pub returns-in-err-byte : goal.returns-in-err-byte
-returns-in-err-byte c = Begun_stop _ c.loop-b.invariant c.in-err-byte.ensures c.from-residual.ensures.1 (drop_more c.args.t.now c.loop-b.b-index 0 (omega arith))
+pub returns-in_err-byte : goal.returns-in_err-byte
+returns-in_err-byte c = Begun_stop _ c.loop-b.invariant c.in_err-byte.ensures c.from_residual.ensures.1 (drop_more c.args.t.now c.loop-b.b-index 0 (omega arith))
 
 pub loop-b-preserved : goal.loop-b-preserved
-loop-b-preserved c = Begun_more _ c.loop-b.invariant c.in-ok-byte.ensures (drop_more c.args.t.now c.loop-b.b-index 0 (omega arith))
+loop-b-preserved c = Begun_more _ c.loop-b.invariant c.in_ok-byte.ensures (drop_more c.args.t.now c.loop-b.b-index 0 (omega arith))
 
 pub returns : goal.returns
 returns c = Begun_all c.loop-b.invariant (drop_all c.loop-b.b-index c.args.t.now (omega arith))

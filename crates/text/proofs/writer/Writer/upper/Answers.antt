@@ -7,15 +7,15 @@ use Rattle.text.proofs.writer.Writer.upper.Goals as goal
 pub loop-b-init : goal.loop-b-init
 loop-b-init c = begun
 
-pub returns-in-err-byte : goal.returns-in-err-byte
-returns-in-err-byte c =
+pub returns-in_err-byte : goal.returns-in_err-byte
+returns-in_err-byte c =
     let next = ap upper_text (drop_more c.args.t.now c.loop-b.b-index 0 (omega arith)) in
-    Begun_stop (upper_text (drop (c.loop-b.b-index + 1) c.args.t.now)) c.loop-b.invariant c.in-err-byte.ensures c.from-residual.ensures.1 (cc)
+    Begun_stop (upper_text (drop (c.loop-b.b-index + 1) c.args.t.now)) c.loop-b.invariant c.in_err-byte.ensures c.from_residual.ensures.1 (cc)
 
 pub loop-b-preserved : goal.loop-b-preserved
 loop-b-preserved c =
     let next = ap upper_text (drop_more c.args.t.now c.loop-b.b-index 0 (omega arith)) in
-    Begun_more _ c.loop-b.invariant c.in-ok-byte.ensures (cc)
+    Begun_more _ c.loop-b.invariant c.in_ok-byte.ensures (cc)
 
 pub returns : goal.returns
 returns c = Begun_all c.loop-b.invariant (ap upper_text (drop_all c.loop-b.b-index c.args.t.now (omega arith)))
