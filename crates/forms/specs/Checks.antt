@@ -1,5 +1,5 @@
 -- The checks of rows, in the order of their numbers. Assumes nothing.
-use Rattle.std.specs.Prelude.{ℕ, ◌/◌, ◌%◌, Bool, true, false, cond, not, ◌&&◌, ◌||◌, List, [], ◌∷◌, length, take, drop, ℤ, pos, negsuc, Some, None, Option, ◌==◌, nat_le, nat_lt, slice_index}
+use Rattle.std.specs.Prelude.{ℕ, ◌/◌, ◌%◌, Bool, true, cond, not, ◌&&◌, ◌||◌, List, [], ◌∷◌, length, take, drop, ℤ, pos, negsuc, Some, None, Option, ◌==◌, nat_le, nat_lt, slice_index}
 use Rattle.kinds.specs.declared.kind.OperandKind.{OperandKind}
 use Rattle.forms.specs.Operands.{has, kinds_of}
 use Rattle.forms.specs.declared.fault.RowFault.{RowFault}

@@ -1,5 +1,5 @@
 -- What a row says, in types: each code by the list of what the codes of its set stand for. Assumes nothing.
-use Rattle.std.specs.Prelude.{◌≡◌, ℕ, ◌<◌, Bool, false, cond, List, [], ◌∷◌, get_or, take, ℤ, pos, negsuc, Some, None, Ok, Err, Option, Result, ◌==◌, slice_index_or}
+use Rattle.std.specs.Prelude.{◌≡◌, ℕ, ◌<◌, false, cond, List, [], ◌∷◌, get_or, take, ℤ, pos, negsuc, Some, None, Ok, Err, Option, Result, ◌==◌, slice_index_or}
 use Rattle.kinds.specs.declared.kind.OperandKind.{OperandKind}
 use Rattle.forms.specs.Checks.{bit, index_outside, form_fault}
 use Rattle.forms.specs.Operands.{kinds_of}

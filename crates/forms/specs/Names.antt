@@ -1,5 +1,5 @@
 -- How a form is named, apart from how that is stored. Assumes nothing.
-use Rattle.std.specs.Prelude.{◌≡◌, ℕ, Bool, false, ◌||◌, List, [], ◌∷◌, Result, nat_lt, slice_index_or}
+use Rattle.std.specs.Prelude.{◌≡◌, ℕ, false, ◌||◌, List, [], ◌∷◌, Result, nat_lt, slice_index_or}
 use Rattle.forms.specs.Checks.{mnemonic_wrong, naming_fault}
 use Rattle.forms.specs.Forms.{answered}
 use Rattle.forms.specs.declared.codes.MemoryLabel.{MemoryLabel}

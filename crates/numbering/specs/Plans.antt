@@ -1,5 +1,5 @@
 -- What a signature decides before its operands are walked. Assumes nothing.
-use Rattle.std.specs.Prelude.{ℕ, Bool, true, false, cond, not, ◌&&◌, List, [], ◌∷◌, count_by, nat_le}
+use Rattle.std.specs.Prelude.{Bool, true, false, cond, not, ◌&&◌, List, [], ◌∷◌, count_by, nat_le}
 use Rattle.kinds.specs.Counters.{counter_of, same}
 use Rattle.kinds.specs.Kinds.{is_mask_first}
 use Rattle.kinds.specs.Rows.{class_of}

@@ -1,6 +1,6 @@
 -- How one operand is spelled, by its class and the number or letter right after its register's name. Assumes nothing.
 use Rattle.std.specs.Prelude.{ℕ, cond, List, [], ◌∷◌, ◌++◌, Some, None, codes, Option}
-use Rattle.text.specs.Texts.{decimal_text, when}
+use Rattle.text.specs.Texts.{decimal_text}
 use Rattle.kinds.specs.declared.table.Bank.{Bank}
 use Rattle.kinds.specs.declared.table.Bank.TheVariants.{Mm, Xmm, Ymm, Zmm}
 use Rattle.kinds.specs.declared.table.Class.{Class}

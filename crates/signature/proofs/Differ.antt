@@ -1,5 +1,5 @@
 -- The numbers of a signature differ and its letters run, for every form and name. Assumes nothing.
-use Rattle.std.proofs.Common.{◌≡◌, ℕ, ◌+◌, ◌<◌, ◌≤◌, Bool, true, false, cond, not, ◌&&◌, ltb, List, [], ◌∷◌, ◌++◌, length, Some, None, Option, sym, refl, ap, ◌∙◌, subst, add-zero, arith, rules}
+use Rattle.std.proofs.Common.{◌≡◌, ℕ, ◌+◌, Bool, true, false, cond, not, ◌&&◌, ltb, List, [], ◌∷◌, ◌++◌, length, Some, None, Option, refl, ap, ◌∙◌, subst, add-zero, arith, rules}
 use mathlib.Core.Path.{subst⁻¹}
 use Rattle.std.proofs.lemmas.Bool.{cond_both}
 use Rattle.std.proofs.lemmas.List.Sums.{sum_by-cons, sum_by-append, sum_by_push}
@@ -19,7 +19,7 @@ use Rattle.numbering.specs.declared.plan.VectorRule.{VectorRule}
 use Rattle.numbering.specs.declared.plan.VectorRule.TheVariants.{Unnumbered, ByPlace, From1, From2, Swapped}
 use Rattle.numbering.proofs.Apart.{Rises, distinct, lower, rises, plus_one, plus_two, swap_one, mask_one}
 use Rattle.operands.specs.declared.setting.Setting.{Setting}
-use Rattle.signature.specs.Pieces.{Piece, pseudo, mnemonic, space, comma, operand, mask, zeroing, sae, rounding, implied}
+use Rattle.signature.specs.Pieces.{Piece, pseudo, mnemonic, space, comma, mask, zeroing, sae, rounding, implied}
 use Rattle.signature.specs.Settings.{setting_of, start_of, walked}
 use Rattle.signature.specs.Signature.{is_pseudo, signature, labelled, labels, printed, NumbersDiffer}
 use Rattle.signature.specs.Walk.{given, rank, masked_at, last_at, names, turn, walk}

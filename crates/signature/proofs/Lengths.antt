@@ -1,10 +1,9 @@
 -- How long the parts of a signature are: none has a line's end, and all of them together have at most 256 bytes.
 -- Assumes nothing.
-use Rattle.std.proofs.Common.{◌≡◌, ℕ, ◌+◌, ◌*◌, ◌<◌, ◌≤◌, Bool, true, false, cond, not, ◌&&◌, eqb, List, [], ◌∷◌, ◌++◌, length, Some, None, codes, Option, sym, refl, ap, ◌∙◌, subst, arith}
+use Rattle.std.proofs.Common.{◌≡◌, ℕ, ◌+◌, ◌<◌, Bool, true, false, cond, not, eqb, [], ◌++◌, Some, None, codes, Option, refl, arith}
 use mathlib.Core.Path.{subst⁻¹}
-use Rattle.std.proofs.lemmas.Bool.{ne_eqb}
 use Rattle.std.proofs.lemmas.Bool.Decides.{nat_tests}
-use Rattle.text.specs.Sized.{Line, unbroken}
+use Rattle.text.specs.Sized.{Line}
 use Rattle.text.specs.Texts.{decimal_text, when}
 use Rattle.text.proofs.Sized.{Line_lit, Line_weaken, Line-append, Line-cond, Line-when, Line-decimal_text}
 use Rattle.kinds.specs.Counters.{counter_of}
@@ -27,7 +26,7 @@ use Rattle.numbering.specs.Numbers.{swapped, mask_number, vector_number, letter,
 use Rattle.numbering.specs.declared.plan.Plan.{Plan}
 use Rattle.numbering.specs.declared.plan.VectorRule.{VectorRule}
 use Rattle.numbering.specs.declared.plan.VectorRule.TheVariants.{Unnumbered, ByPlace, From1, From2, Swapped}
-use Rattle.operands.specs.Memories.{is_tag, bits_text, label_text, fpu_text, size_text, memory_text, width_text, width_bits, gpr_mem_text}
+use Rattle.operands.specs.Memories.{is_tag, bits_text, label_text, fpu_text, size_text, memory_text, width_text, width_bits}
 use Rattle.operands.specs.Operands.{bank_text, word_text, register_text, number_text, letter_text, operand_text}
 use Rattle.operands.specs.declared.setting.Setting.{Setting}
 use Rattle.operands.specs.declared.setting.Sized.{Sized}

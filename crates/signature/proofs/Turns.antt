@@ -1,5 +1,5 @@
 -- The text of what one operand adds. Assumes nothing.
-use Rattle.std.proofs.Common.{◌≡◌, ℕ, Bool, true, false, ◌&&◌, List, [], ◌∷◌, ◌++◌, codes, Option, sym, refl, ap, ◌∙◌, append_assoc, append-nil}
+use Rattle.std.proofs.Common.{◌≡◌, ℕ, Bool, true, false, ◌&&◌, List, [], ◌++◌, codes, Option, sym, refl, ap, ◌∙◌, append_assoc, append-nil}
 use Rattle.text.specs.Texts.{when}
 use Rattle.kinds.specs.Rows.{class_of}
 use Rattle.kinds.specs.declared.kind.OperandKind.{OperandKind}
@@ -8,7 +8,7 @@ use Rattle.operands.specs.Operands.{operand_text}
 use Rattle.operands.specs.declared.setting.Setting.{Setting}
 use Rattle.signature.specs.Counts.{number_if}
 use Rattle.signature.specs.Masks.{mask_text}
-use Rattle.signature.specs.Pieces.{Piece, comma, operand, mask, zeroing, sae, rounding, spelling, spelled}
+use Rattle.signature.specs.Pieces.{Piece, comma, mask, zeroing, sae, rounding, spelling, spelled}
 use Rattle.signature.specs.Walk.{given, masked_at, last_at, turn}
 
 pub spelled-given : (s : Setting) (b : Bool) (p : Piece) (ps : List Piece) → spelled s (given b p ps) ≡ when b (spelling s p) ++ spelled s ps

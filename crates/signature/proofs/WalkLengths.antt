@@ -1,5 +1,5 @@
 -- A signature has 1 to 256 bytes, none of which ends a line. Assumes nothing.
-use Rattle.std.proofs.Common.{◌≡◌, ℕ, suc, ◌+◌, ◌*◌, ◌<◌, ◌≤◌, Bool, true, false, cond, not, ◌&&◌, eqb, ltb, List, [], ◌∷◌, ◌++◌, length, codes, Option, sym, refl, ap, ◌∙◌, subst, arith, length-append, rules}
+use Rattle.std.proofs.Common.{◌≡◌, ℕ, suc, ◌+◌, ◌*◌, ◌<◌, ◌≤◌, Bool, true, false, cond, not, ◌&&◌, eqb, ltb, List, [], ◌∷◌, ◌++◌, length, codes, refl, ap, arith, length-append, rules}
 use mathlib.Core.Path.{subst⁻¹}
 use lib.ListN.{length-map}
 use Rattle.std.proofs.lemmas.List.Sums.{count_by-le-length}
@@ -22,16 +22,15 @@ use Rattle.forms.specs.declared.form.Form.{Form}
 use Rattle.forms.proofs.PassingNames.{right_mnemonic, small_memory, small_broadcast}
 use Rattle.numbering.specs.Numbers.{mask_number, label_of}
 use Rattle.numbering.specs.Plans.{counter_at}
-use Rattle.operands.specs.Operands.{operand_text}
 use Rattle.operands.specs.declared.setting.Setting.{Setting}
 use Rattle.signature.specs.Counts.{number_if}
 use Rattle.signature.specs.Masks.{mask_text}
-use Rattle.signature.specs.Pieces.{Piece, pseudo_text, implied_text, spelled}
+use Rattle.signature.specs.Pieces.{pseudo_text, implied_text, spelled}
 use Rattle.signature.specs.Settings.{setting_of, start_of, walked}
-use Rattle.signature.specs.Signature.{is_pseudo, signature, signature_text}
-use Rattle.signature.specs.Walk.{rank, masked_at, last_at, names, turn, walk}
+use Rattle.signature.specs.Signature.{is_pseudo, signature_text}
+use Rattle.signature.specs.Walk.{rank, masked_at, last_at, names, walk}
 use Rattle.signature.proofs.Lengths.{Sizes, Line-operand_text, Short-label_of, mask_short}
-use Rattle.signature.proofs.Turns.{turn_parts, turn_text}
+use Rattle.signature.proofs.Turns.{turn_text}
 use Rattle.signature.proofs.Wholes.{few_walked, pseudo_whole, walk_whole}
 
 Line-implied_text : (t : Tag) → Line 20 (implied_text t)

@@ -1,17 +1,16 @@
 -- The text of a whole signature, by its parts. Assumes nothing.
-use Rattle.std.proofs.Common.{◌≡◌, ℕ, ◌≤◌, Bool, true, false, cond, ltb, List, [], ◌∷◌, ◌++◌, length, drop, codes, sym, refl, ap, ◌∙◌, append_assoc, append-nil, arith, length-drop, length-take}
+use Rattle.std.proofs.Common.{◌≡◌, ◌≤◌, true, false, cond, ltb, [], ◌∷◌, ◌++◌, length, drop, codes, sym, ap, ◌∙◌, append_assoc, append-nil, arith, length-drop, length-take}
 use Rattle.std.proofs.lemmas.Bool.{cond_both}
 use Rattle.text.specs.Texts.{upper_text, when}
 use Rattle.kinds.specs.Kinds.{hides_all}
-use Rattle.kinds.specs.declared.kind.OperandKind.{OperandKind}
 use Rattle.forms.specs.Forms.{counted}
 use Rattle.forms.specs.Names.{Name}
 use Rattle.forms.specs.Operands.{any}
 use Rattle.forms.specs.declared.codes.NamingOption.{NamingOption}
 use Rattle.forms.specs.declared.form.Form.{Form}
-use Rattle.signature.specs.Pieces.{Piece, pseudo, mnemonic, space, pseudo_text, spelled}
+use Rattle.signature.specs.Pieces.{pseudo, mnemonic, space, pseudo_text, spelled}
 use Rattle.signature.specs.Settings.{setting_of, start_of, walked}
-use Rattle.signature.specs.Signature.{is_pseudo, signature, signature_text}
+use Rattle.signature.specs.Signature.{is_pseudo, signature_text}
 use Rattle.signature.specs.Walk.{given, walk}
 use Rattle.signature.proofs.Turns.{spelled-given}
 

@@ -1,5 +1,5 @@
 -- What a signature is made of, in the order of its text, and how each piece is spelled. Assumes nothing.
-use Rattle.std.specs.Prelude.{ℕ, List, [], ◌∷◌, Some, None, codes, Option}
+use Rattle.std.specs.Prelude.{ℕ, List, [], Some, codes, Option}
 use Rattle.std.specs.List.{flat_map}
 use Rattle.text.specs.Texts.{upper_text}
 use Rattle.kinds.specs.declared.table.Class.{Class}

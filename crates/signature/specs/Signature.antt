@@ -1,5 +1,5 @@
 -- The signature of a form under a name. Assumes nothing.
-use Rattle.std.specs.Prelude.{◌≡◌, ℕ, ◌+◌, Bool, true, false, cond, not, List, [], ◌∷◌, length, Some, None, Option, ◌≢◌, nat_lt}
+use Rattle.std.specs.Prelude.{ℕ, ◌+◌, Bool, true, false, cond, List, [], ◌∷◌, length, Some, None, Option, ◌≢◌, nat_lt}
 use Rattle.kinds.specs.Counters.{counter_of, same}
 use Rattle.kinds.specs.declared.counter.Counter.{Counter}
 use Rattle.forms.specs.Names.{Name}

@@ -1,5 +1,5 @@
 -- The operands of a signature, walked in their order. Assumes nothing.
-use Rattle.std.specs.Prelude.{ℕ, ◌+◌, Bool, true, false, cond, not, ◌&&◌, List, [], ◌∷◌, ◌++◌, count_by, Option, ◌==◌}
+use Rattle.std.specs.Prelude.{ℕ, ◌+◌, Bool, cond, not, ◌&&◌, List, [], ◌∷◌, ◌++◌, count_by, Option, ◌==◌}
 use Rattle.kinds.specs.Counters.{same}
 use Rattle.kinds.specs.Kinds.{is_seg_rdi}
 use Rattle.kinds.specs.Rows.{class_of}

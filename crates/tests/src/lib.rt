@@ -2,5 +2,5 @@
 #![tactic(auto)]
 
 pub mod checks;
-pub mod sources;
+pub mod counting;
 pub mod writing;

@@ -19,7 +19,7 @@ mod tests {
             ),
             Ok(9)
         );
-        assert!(rt; &out[0..9] == b"abAFX_910");
+        assert!(rt; &out[0..9] == b"abAFX_910".as_slice());
         Ok(())
     }
 
@@ -33,7 +33,7 @@ mod tests {
             ),
             Err(WriteFault { at: 8 })
         );
-        assert!(rt; &out[0..8] == b"abAFX_91");
+        assert!(rt; &out[0..8] == b"abAFX_91".as_slice());
         Ok(())
     }
 
@@ -41,7 +41,7 @@ mod tests {
     fn room_left(rt: HostRuntime) {
         let mut out = [b'.'; 5];
         assert_eq!(rt; render(&mut out, Decimal(0)), Ok(1));
-        assert!(rt; &out[0..5] == b"0....");
+        assert!(rt; &out[0..5] == b"0....".as_slice());
     }
 
     #[test]

@@ -1,4 +1,4 @@
-use Rattle.std.proofs.Common.{◌≡◌, ℕ, ◌≤◌, Bool, false, ltb, List, [], ◌++◌, length, codes, sym, refl, ap, ◌∙◌, subst, arith}
+use Rattle.std.proofs.Common.{◌≡◌, ℕ, ◌≤◌, Bool, false, ltb, List, [], ◌++◌, length, codes, sym, refl, ap, ◌∙◌, subst}
 use Rattle.kinds.specs.declared.kind.OperandKind.{OperandKind}
 use Rattle.forms.proofs.Passing.{few_operands}
 use Rattle.forms.specs.Made.{form_in, name_in}

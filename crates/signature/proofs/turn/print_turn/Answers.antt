@@ -1,4 +1,4 @@
-use Rattle.std.proofs.Common.{◌≡◌, Bool, cond, ◌&&◌, [], ◌∷◌, sym, ap, ◌∙◌}
+use Rattle.std.proofs.Common.{◌≡◌, Bool, cond, ◌&&◌, [], ◌∷◌, ap, ◌∙◌}
 use Rattle.numbering.specs.Numbers.{label_of, mask_number}
 use Rattle.numbering.specs.Plans.{counter_at}
 use Rattle.kinds.specs.Counters.{counter_of}

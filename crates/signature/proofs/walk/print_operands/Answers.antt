@@ -1,5 +1,4 @@
 use Rattle.std.proofs.Common.{◌≡◌, ℕ, ◌+◌, ◌*◌, not, sym, refl, ap, ◌∙◌, subst, add-zero, arith}
-use Rattle.kinds.specs.Kinds.{is_seg_rdi}
 use Rattle.kinds.specs.declared.kind.OperandKind.{OperandKind}
 use Rattle.operands.specs.declared.setting.Setting.{Setting}
 use Rattle.signature.specs.Counts.{bumped_by, fresh, Below}

@@ -1,7 +1,7 @@
 use Rattle.std.proofs.Common.{arith, rules}
 use Rattle.sources.proofs.Fetched.{fetched_some}
 use Rattle.tests.proofs.Alike.{alike_rest, alike_end}
-use Rattle.tests.proofs.sources.count_like.Goals as goal
+use Rattle.tests.proofs.counting.count_like.Goals as goal
 
 pub unreachable-requires-in-Err : goal.unreachable-requires-in-Err
 unreachable-requires-in-Err g c =

@@ -1,6 +1,6 @@
 use Rattle.std.proofs.Common.{◌≡◌, ◌+◌, ◌≤◌, drop}
 use Rattle.tests.specs.Entries.{alike}
-use Rattle.tests.proofs.sources.count_like.Given as goal
+use Rattle.tests.proofs.counting.count_like.Given as goal
 
 -- What is found and what is left give the whole.
 abbrev pub invariant-loop-n : goal.invariant-loop-n
