@@ -8,9 +8,9 @@ export LC_ALL=C
 here=$(cd "$(dirname "$0")" && pwd)
 rows=${2:-100000}
 seed=${3:-1}
-ours=${OURS:-$here/../../target/bin/archive}
+ours=${OURS:-$here/../../crates/archive/out/archive}
 batch=${BATCH:-5000}
-[ -x "$ours" ] || { echo "compare.sh: no program $ours: set OURS, or run rt check archive" >&2; exit 2; }
+[ -x "$ours" ] || { echo "compare.sh: no program $ours: set OURS, or run rt run < stdin in crates/archive" >&2; exit 2; }
 
 room=$(mktemp -d)
 trap 'rm -rf "$room"' EXIT
