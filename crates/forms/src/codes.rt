@@ -1,7 +1,7 @@
 // What the codes of a row stand for, each set in the order of its numbers, from 0.
 
 // How the opcode is encoded. Code 5, MVEX, is a code too; no description has it.
-#[derive(Clone, Copy)]
+#[derive(Clone, Copy, Debug, PartialEq, Eq)]
 pub enum Encoding {
     Legacy,
     Vex,
@@ -11,7 +11,7 @@ pub enum Encoding {
 }
 
 // The opcode table; Map8 to Map10 are the tables of XOP.
-#[derive(Clone, Copy)]
+#[derive(Clone, Copy, Debug, PartialEq, Eq)]
 pub enum Table {
     Normal,
     T0f,
@@ -25,7 +25,7 @@ pub enum Table {
 }
 
 // The mandatory prefix; Pnp says that none of 66, F3 and F2 may stand there.
-#[derive(Clone, Copy)]
+#[derive(Clone, Copy, Debug, PartialEq, Eq)]
 pub enum Prefix {
     Absent,
     Pnp,
@@ -35,7 +35,7 @@ pub enum Prefix {
 }
 
 // How the vector length is spelled: as 128, 256, 512, as L0, L1, L2, or as LZ.
-#[derive(Clone, Copy)]
+#[derive(Clone, Copy, Debug, PartialEq, Eq)]
 pub enum LengthKind {
     Absent,
     L128,
@@ -44,7 +44,7 @@ pub enum LengthKind {
 }
 
 // The vector length, numbers 0 to 2.
-#[derive(Clone, Copy)]
+#[derive(Clone, Copy, Debug, PartialEq, Eq)]
 pub enum VectorLength {
     V128,
     V256,
@@ -52,7 +52,7 @@ pub enum VectorLength {
 }
 
 // An address or operand size that the form fixes, in bits.
-#[derive(Clone, Copy)]
+#[derive(Clone, Copy, Debug, PartialEq, Eq)]
 pub enum Size {
     Absent,
     S16,
@@ -62,7 +62,7 @@ pub enum Size {
 
 // What is special about a form: the six entries that are no instructions, forms with a memory or register spelling of
 // their own, and the groups of operands that are implied.
-#[derive(Clone, Copy)]
+#[derive(Clone, Copy, Debug, PartialEq, Eq)]
 pub enum Tag {
     Plain,
     Invalid,
@@ -84,7 +84,7 @@ pub enum Tag {
 }
 
 // How the operands of a signature are numbered and walked.
-#[derive(Clone, Copy)]
+#[derive(Clone, Copy, Debug, PartialEq, Eq)]
 pub enum NamingOption {
     Plain,
     OpMaskIsK1OrNoGprSuffix,
@@ -96,7 +96,7 @@ pub enum NamingOption {
 }
 
 // What a memory holds, where its size alone does not say it.
-#[derive(Clone, Copy)]
+#[derive(Clone, Copy, Debug, PartialEq, Eq)]
 pub enum MemoryLabel {
     Plain,
     Int,

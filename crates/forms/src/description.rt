@@ -5,7 +5,7 @@ use crate::form::Form;
 
 pub mod make;
 
-#[derive(Clone, Copy)]
+#[derive(Clone, Copy, Debug, PartialEq, Eq)]
 pub struct Description {
     form: Form,
     ghost passed: { Passed form },

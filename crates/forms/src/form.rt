@@ -3,7 +3,7 @@ use crate::codes::{Encoding, LengthKind, MemoryLabel, Prefix, Size, Table, Tag, 
 use kinds::OperandKind;
 
 // The flag bits 0 to 10, in their order.
-#[derive(Clone, Copy)]
+#[derive(Clone, Copy, Debug, PartialEq, Eq)]
 pub struct Flags {
     pub lig: bool,
     pub w: bool,
@@ -19,7 +19,7 @@ pub struct Flags {
 }
 
 // `wide` says that the opcode has two bytes; group and rm are the fields of ModRM that the form fixes.
-#[derive(Clone, Copy)]
+#[derive(Clone, Copy, Debug, PartialEq, Eq)]
 pub struct Form {
     pub encoding: Encoding,
     pub table: Table,
@@ -38,7 +38,7 @@ pub struct Form {
     pub tag: Tag,
 }
 
-#[derive(Clone, Copy)]
+#[derive(Clone, Copy, Debug, PartialEq, Eq)]
 pub struct Memory {
     pub label: MemoryLabel,
     pub size: u32,

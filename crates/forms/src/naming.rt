@@ -7,7 +7,7 @@ use crate::form::Memory;
 
 pub mod make;
 
-#[derive(Clone, Copy)]
+#[derive(Clone, Copy, Debug, PartialEq, Eq)]
 pub struct Naming {
     text: [u8; 32],
     used: usize,

@@ -6,7 +6,7 @@ use crate::row::FormRow;
 use kinds::OperandKind;
 
 // What is looked for among operand kinds: no operand, any operand, seg_rDI, or a general register that may be memory.
-#[derive(Clone, Copy)]
+#[derive(Clone, Copy, Debug, PartialEq, Eq)]
 pub(crate) enum Sought {
     Missing,
     Present,

@@ -5,7 +5,7 @@ ghost use Rattle.kinds.specs.Counters.{counter_of};
 use crate::table::{Class, Width};
 
 // The counts that run along a signature. Letter32 and Letter64 count the plain registers of a width.
-#[derive(Clone, Copy, PartialEq)]
+#[derive(Clone, Copy, Debug, PartialEq, Eq)]
 pub enum Counter {
     Uncounted,
     Vector,

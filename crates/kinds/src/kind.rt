@@ -3,7 +3,7 @@ ghost use Rattle.std.specs.Prelude.{◌≡◌, Some};
 ghost use Rattle.kinds.specs.Kinds.{kinds, kind_at, place_of};
 
 // How an operand is encoded and what it may be. Absent stands where there is no operand.
-#[derive(Clone, Copy)]
+#[derive(Clone, Copy, Debug, PartialEq, Eq)]
 pub enum OperandKind {
     R32Reg,
     R32RegMem,

@@ -7,7 +7,7 @@ use self::Width::{W8, W16, W32, W64};
 use crate::kind::OperandKind;
 
 // The size of a general register.
-#[derive(Clone, Copy)]
+#[derive(Clone, Copy, Debug, PartialEq, Eq)]
 pub enum Width {
     W8,
     W16,
@@ -16,7 +16,7 @@ pub enum Width {
 }
 
 // The registers that share the count of vectors.
-#[derive(Clone, Copy)]
+#[derive(Clone, Copy, Debug, PartialEq, Eq)]
 pub enum Bank {
     Mm,
     Xmm,
@@ -25,7 +25,7 @@ pub enum Bank {
 }
 
 // A register that the opcode fixes.
-#[derive(Clone, Copy)]
+#[derive(Clone, Copy, Debug, PartialEq, Eq)]
 pub enum Register {
     Es,
     Cs,
@@ -42,7 +42,7 @@ pub enum Register {
 }
 
 // An operand that prints as a fixed word.
-#[derive(Clone, Copy)]
+#[derive(Clone, Copy, Debug, PartialEq, Eq)]
 pub enum Word {
     Ptr1616,
     Ptr1632,
@@ -73,7 +73,7 @@ pub enum Word {
 
 // How an operand is printed in a signature. Missing is no operand, Hidden is one that leaves no text,
 // and Strings is one of a string instruction or of xlat, which print no operand at all.
-#[derive(Clone, Copy)]
+#[derive(Clone, Copy, Debug, PartialEq, Eq)]
 pub enum Class {
     Missing,
     Hidden,
@@ -98,7 +98,7 @@ pub enum Class {
 }
 
 // What an operand adds at the end of an opcode string.
-#[derive(Clone, Copy)]
+#[derive(Clone, Copy, Debug, PartialEq, Eq)]
 pub enum Suffix {
     Plain,
     Cb,
@@ -115,7 +115,7 @@ pub enum Suffix {
 }
 
 // The part that an operand has in the opcode string.
-#[derive(Clone, Copy)]
+#[derive(Clone, Copy, Debug, PartialEq, Eq)]
 pub enum Role {
     // None.
     Plain,

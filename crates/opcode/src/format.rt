@@ -13,7 +13,7 @@ use forms::description::Description;
 use forms::form::Form;
 use kinds::OperandKind;
 use text::pieces;
-use text::pieces::{Lit, Piece};
+use text::pieces::{Piece, Text};
 use text::writer::{WriteFault, Writer};
 
 // The opcode comes after the ModRM byte, and nothing after it.
@@ -21,7 +21,7 @@ fn format_3dnow(w: &mut Writer, form: &Form) -> Result<(), WriteFault>
     ensures { Wrote w.old (d3now_text form.now) w.new result }
 {
     pieces!(
-        Lit(b"0F 0F /r "),
+        Text(b"0F 0F /r "),
         OpCode {
             value: form.opcode,
             wide: form.wide

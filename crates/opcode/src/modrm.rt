@@ -8,7 +8,7 @@ use forms::codes::Encoding;
 use forms::form::Form;
 use kinds::OperandKind;
 use text::pieces;
-use text::pieces::{Decimal, Lit, Piece, When};
+use text::pieces::{Decimal, Piece, Text, When};
 use text::writer::{WriteFault, Writer};
 
 // What is said of the ModRM byte: whether it names memory alone, and its reg and rm fields where they are fixed.
@@ -69,13 +69,13 @@ impl Piece for Bits {
     }
 }
 
-fn mod_field(memory: bool) -> Lit
+fn mod_field(memory: bool) -> Text<'static>
     ensures { result.0.now ≡ mod_text memory }
 {
     if memory {
-        Lit(b" !(11):")
+        Text(b" !(11):")
     } else {
-        Lit(b" 11:")
+        Text(b" 11:")
     }
 }
 
@@ -92,7 +92,7 @@ pub(crate) fn append_modrm(
         pieces!(
             mod_field(info.memory),
             Bits(b"rrr", info.rrr),
-            Lit(b":"),
+            Text(b":"),
             Bits(b"bbb", info.bbb)
         )
         .print(w)
@@ -101,14 +101,14 @@ pub(crate) fn append_modrm(
         let modrm = has_mod_rm(form.encoding, operands);
         match form.group {
             Some(group) => pieces!(
-                Lit(b" /"),
+                Text(b" /"),
                 Decimal(group as u32),
-                When(vsib, Lit(b" /vsib"))
+                When(vsib, Text(b" /vsib"))
             )
             .print(w),
             None => pieces!(
-                When(!vsib && modrm, Lit(b" /r")),
-                When(vsib, Lit(b" /vsib"))
+                When(!vsib && modrm, Text(b" /r")),
+                When(vsib, Text(b" /vsib"))
             )
             .print(w),
         }

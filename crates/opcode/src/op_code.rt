@@ -2,7 +2,7 @@
 ghost use Rattle.opcode.specs.Heads.{op_code_text};
 
 use text::pieces;
-use text::pieces::{Hex, Lit, Piece, When};
+use text::pieces::{Hex, Piece, Text, When};
 use text::writer::{WriteFault, Writer};
 
 // A wide opcode has two bytes, with a space between.
@@ -17,7 +17,10 @@ impl Piece for OpCode {
 
     fn print(self, w: &mut Writer) -> Result<(), WriteFault> {
         pieces!(
-            When(self.wide, pieces!(Hex((self.value / 256) as u8), Lit(b" "))),
+            When(
+                self.wide,
+                pieces!(Hex((self.value / 256) as u8), Text(b" "))
+            ),
             Hex((self.value % 256) as u8)
         )
         .print(w)

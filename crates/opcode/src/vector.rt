@@ -10,63 +10,63 @@ use forms::codes::{LengthKind, Prefix, Table, VectorLength};
 use forms::form::{Flags, Form};
 use kinds::OperandKind;
 use text::pieces;
-use text::pieces::{Lit, Piece};
+use text::pieces::{Piece, Text};
 use text::writer::{WriteFault, Writer};
 
-fn vector_length(form: &Form) -> Lit
+fn vector_length(form: &Form) -> Text<'static>
     ensures { result.0.now ≡ vector_length form.now }
 {
     if form.flags.lig {
-        return Lit(b"LIG");
+        return Text(b"LIG");
     }
     match (form.lkind, form.length) {
-        (LengthKind::Absent, _) => Lit(b""),
-        (LengthKind::L128, VectorLength::V128) => Lit(b"128"),
-        (LengthKind::L128, VectorLength::V256) => Lit(b"256"),
-        (LengthKind::L128, VectorLength::V512) => Lit(b"512"),
-        (LengthKind::L0, VectorLength::V128) => Lit(b"L0"),
-        (LengthKind::L0, VectorLength::V256) => Lit(b"L1"),
-        (LengthKind::L0, VectorLength::V512) => Lit(b"L2"),
-        (LengthKind::Lz, _) => Lit(b"LZ"),
+        (LengthKind::Absent, _) => Text(b""),
+        (LengthKind::L128, VectorLength::V128) => Text(b"128"),
+        (LengthKind::L128, VectorLength::V256) => Text(b"256"),
+        (LengthKind::L128, VectorLength::V512) => Text(b"512"),
+        (LengthKind::L0, VectorLength::V128) => Text(b"L0"),
+        (LengthKind::L0, VectorLength::V256) => Text(b"L1"),
+        (LengthKind::L0, VectorLength::V512) => Text(b"L2"),
+        (LengthKind::Lz, _) => Text(b"LZ"),
     }
 }
 
-fn dotted_prefix(prefix: Prefix) -> Lit
+fn dotted_prefix(prefix: Prefix) -> Text<'static>
     ensures { result.0.now ≡ dotted_prefix prefix }
 {
     match prefix {
-        Prefix::Absent | Prefix::Pnp => Lit(b""),
-        Prefix::P66 => Lit(b".66"),
-        Prefix::Pf3 => Lit(b".F3"),
-        Prefix::Pf2 => Lit(b".F2"),
+        Prefix::Absent | Prefix::Pnp => Text(b""),
+        Prefix::P66 => Text(b".66"),
+        Prefix::Pf3 => Text(b".F3"),
+        Prefix::Pf2 => Text(b".F2"),
     }
 }
 
-fn append_dotted_table(table: Table) -> Lit
+fn append_dotted_table(table: Table) -> Text<'static>
     ensures { result.0.now ≡ dotted_table table }
 {
     match table {
-        Table::Normal => Lit(b""),
-        Table::T0f => Lit(b".0F"),
-        Table::T0f38 => Lit(b".0F38"),
-        Table::T0f3a => Lit(b".0F3A"),
-        Table::Map5 => Lit(b".MAP5"),
-        Table::Map6 => Lit(b".MAP6"),
-        Table::Map8 => Lit(b".X8"),
-        Table::Map9 => Lit(b".X9"),
-        Table::Map10 => Lit(b".XA"),
+        Table::Normal => Text(b""),
+        Table::T0f => Text(b".0F"),
+        Table::T0f38 => Text(b".0F38"),
+        Table::T0f3a => Text(b".0F3A"),
+        Table::Map5 => Text(b".MAP5"),
+        Table::Map6 => Text(b".MAP6"),
+        Table::Map8 => Text(b".X8"),
+        Table::Map9 => Text(b".X9"),
+        Table::Map10 => Text(b".XA"),
     }
 }
 
-fn w_bit(flags: Flags) -> Lit
+fn w_bit(flags: Flags) -> Text<'static>
     ensures { result.0.now ≡ w_text flags }
 {
     if flags.wig {
-        Lit(b".WIG")
+        Text(b".WIG")
     } else if flags.w {
-        Lit(b".W1")
+        Text(b".W1")
     } else {
-        Lit(b".W0")
+        Text(b".W0")
     }
 }
 
@@ -75,13 +75,13 @@ fn vec_head(w: &mut Writer, name: &'static [u8], form: &Form) -> Result<(), Writ
     ensures { Wrote w.old (vec_head name.now form.now) w.new result }
 {
     pieces!(
-        Lit(name),
-        Lit(b"."),
+        Text(name),
+        Text(b"."),
         vector_length(form),
         dotted_prefix(form.prefix),
         append_dotted_table(form.table),
         w_bit(form.flags),
-        Lit(b" "),
+        Text(b" "),
         OpCode {
             value: form.opcode,
             wide: form.wide

@@ -6,7 +6,7 @@ use crate::setting::{Setting, Sized};
 use forms::codes::{MemoryLabel, Tag};
 use kinds::Width;
 use text::pieces;
-use text::pieces::{Lit, Piece, When};
+use text::pieces::{Piece, Text, When};
 use text::writer::{WriteFault, Writer};
 
 fn is_two_byte(tag: Tag) -> bool
@@ -122,7 +122,7 @@ impl Piece for MemoryText {
     fn print(self, w: &mut Writer) -> Result<(), WriteFault> {
         let setting = self.0;
         pieces!(
-            Lit(b"m"),
+            Text(b"m"),
             SizeText {
                 setting,
                 memory: setting.memory,
@@ -130,12 +130,12 @@ impl Piece for MemoryText {
             When(
                 setting.flags.broadcast,
                 pieces!(
-                    Lit(b"/m"),
+                    Text(b"/m"),
                     SizeText {
                         setting,
                         memory: setting.element,
                     },
-                    Lit(b"bcst")
+                    Text(b"bcst")
                 )
             )
         )
@@ -183,12 +183,12 @@ impl Piece for GprMemText {
 
     fn print(self, w: &mut Writer) -> Result<(), WriteFault> {
         pieces!(
-            Lit(b"r"),
+            Text(b"r"),
             When(
                 self.setting.memory.bits != bits(self.width),
                 WidthText(self.width)
             ),
-            Lit(b"/"),
+            Text(b"/"),
             MemoryText(self.setting)
         )
         .print(w)

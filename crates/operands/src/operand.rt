@@ -7,7 +7,7 @@ use crate::setting::Setting;
 use forms::codes::Tag;
 use kinds::Class;
 use text::pieces;
-use text::pieces::{Lit, Piece};
+use text::pieces::{Piece, Text};
 use text::writer::{WriteFault, Writer};
 
 // `label` is the number or letter right after the register's name.
@@ -26,24 +26,24 @@ impl Piece for Operand {
         let memory = MemoryText(self.setting);
         match self.class {
             Class::Missing | Class::Hidden | Class::Strings => w.text(b""),
-            Class::Gpr(width) => pieces!(Lit(b"r"), WidthText(width), Letter(self.label)).print(w),
+            Class::Gpr(width) => pieces!(Text(b"r"), WidthText(width), Letter(self.label)).print(w),
             Class::GprMem(width) => GprMemText {
                 setting: self.setting,
                 width,
             }
             .print(w),
             Class::Vec(bank) => pieces!(BankName(bank), number).print(w),
-            Class::VecMem(bank) => pieces!(BankName(bank), number, Lit(b"/"), memory).print(w),
-            Class::VecPlus3(bank) => pieces!(BankName(bank), number, Lit(b"+3")).print(w),
-            Class::Mask => pieces!(Lit(b"k"), number).print(w),
-            Class::MaskMem => pieces!(Lit(b"k"), number, Lit(b"/"), memory).print(w),
-            Class::MaskPlus1 => pieces!(Lit(b"k"), number, Lit(b"+1")).print(w),
-            Class::Tile => pieces!(Lit(b"tmm"), number).print(w),
-            Class::Bound => pieces!(Lit(b"bnd"), number).print(w),
-            Class::BoundMem => pieces!(Lit(b"bnd"), number, Lit(b"/"), memory).print(w),
+            Class::VecMem(bank) => pieces!(BankName(bank), number, Text(b"/"), memory).print(w),
+            Class::VecPlus3(bank) => pieces!(BankName(bank), number, Text(b"+3")).print(w),
+            Class::Mask => pieces!(Text(b"k"), number).print(w),
+            Class::MaskMem => pieces!(Text(b"k"), number, Text(b"/"), memory).print(w),
+            Class::MaskPlus1 => pieces!(Text(b"k"), number, Text(b"+1")).print(w),
+            Class::Tile => pieces!(Text(b"tmm"), number).print(w),
+            Class::Bound => pieces!(Text(b"bnd"), number).print(w),
+            Class::BoundMem => pieces!(Text(b"bnd"), number, Text(b"/"), memory).print(w),
             Class::Mem => memory.print(w),
             Class::MemOffs => pieces!(
-                Lit(b"moffs"),
+                Text(b"moffs"),
                 SizeText {
                     setting: self.setting,
                     memory: self.setting.memory,

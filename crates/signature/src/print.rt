@@ -12,7 +12,7 @@ use forms::codes::Tag;
 use forms::description::Description;
 use forms::naming::Naming;
 use text::pieces;
-use text::pieces::{Lit, Piece, Upper, When};
+use text::pieces::{Text, Piece, Upper, When};
 use text::writer::{WriteFault, Writer};
 
 fn is_pseudo(tag: Tag) -> bool
@@ -53,7 +53,7 @@ fn print_text(w: &mut Writer, description: &Description, naming: &Naming) -> Res
     }
     let option = naming.option();
     let kinds = walked(description, option);
-    pieces!(Upper(naming.mnemonic()), When(kinds.len() > 0, Lit(b" "))).print(w)?;
+    pieces!(Upper(naming.mnemonic()), When(kinds.len() > 0, Text(b" "))).print(w)?;
     print_operands(w, &setting, start_of(option), kinds)
 }
 

@@ -12,7 +12,7 @@ use crate::counts::Numbering;
 use kinds::OperandKind;
 use operands::{Operand, Setting};
 use text::pieces;
-use text::pieces::{Decimal, Lit, Piece, When};
+use text::pieces::{Decimal, Text, Piece, When};
 use text::writer::{WriteFault, Writer};
 
 // The mask after operand 0, if there is one.
@@ -25,7 +25,7 @@ impl Piece for Mask {
     fn print(self, w: &mut Writer) -> Result<(), WriteFault> {
         match self.0 {
             None => w.text(b""),
-            Some(n) => pieces!(Lit(b" {k"), Decimal(n as u32), Lit(b"}")).print(w),
+            Some(n) => pieces!(Text(b" {k"), Decimal(n as u32), Text(b"}")).print(w),
         }
     }
 }
@@ -72,16 +72,16 @@ pub(crate) fn print_turn(
     let last = last_at(setting, place);
     let (label, mask) = numbering.next_labels(class.counter(), place as u8, masked);
     pieces!(
-        When(follows, Lit(b", ")),
+        When(follows, Text(b", ")),
         Operand {
             setting: *setting,
             class,
             label,
         },
         Mask(mask),
-        When(both(masked, setting.flags.zeroing), Lit(b"{z}")),
-        When(both(last, setting.flags.sae), Lit(b"{sae}")),
-        When(both(last, setting.flags.rounding), Lit(b"{er}"))
+        When(both(masked, setting.flags.zeroing), Text(b"{z}")),
+        When(both(last, setting.flags.sae), Text(b"{sae}")),
+        When(both(last, setting.flags.rounding), Text(b"{er}"))
     )
     .print(w)
 }

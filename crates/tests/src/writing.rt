@@ -5,7 +5,7 @@ mod tests {
     use std::fmt::Debug;
     use std::test::Fail;
     use text::pieces;
-    use text::pieces::{Decimal, Hex, Lit, Piece, Upper};
+    use text::pieces::{Decimal, Hex, Text, Piece, Upper};
     use text::render::render;
     use text::writer::WriteFault;
 
@@ -15,7 +15,7 @@ mod tests {
         assert_eq!(rt;
             render(
                 &mut out,
-                pieces!(Lit(b"ab"), Hex(0xAF), Upper(b"x_9"), Decimal(10)),
+                pieces!(Text(b"ab"), Hex(0xAF), Upper(b"x_9"), Decimal(10)),
             ),
             Ok(9)
         );
@@ -29,7 +29,7 @@ mod tests {
         assert_eq!(rt;
             render(
                 &mut out,
-                pieces!(Lit(b"ab"), Hex(0xAF), Upper(b"x_9"), Decimal(10)),
+                pieces!(Text(b"ab"), Hex(0xAF), Upper(b"x_9"), Decimal(10)),
             ),
             Err(WriteFault { at: 8 })
         );
@@ -47,7 +47,7 @@ mod tests {
     #[test]
     fn empty(rt: HostRuntime) {
         let mut out = [0u8; 0];
-        assert_eq!(rt; render(&mut out, Lit(b"")), Ok(0));
-        assert_eq!(rt; render(&mut out, Lit(b"a")), Err(WriteFault { at: 0 }));
+        assert_eq!(rt; render(&mut out, Text(b"")), Ok(0));
+        assert_eq!(rt; render(&mut out, Text(b"a")), Err(WriteFault { at: 0 }));
     }
 }

@@ -14,11 +14,7 @@ pub trait Piece: Drop {
         ensures { Wrote w.old (spelled self) w.new result };
 }
 
-// A text that the program has written out.
-#[derive(Clone, Copy)]
-pub struct Lit(pub &'static [u8]);
-
-// A text that someone else has.
+/// A text, as it stands.
 #[derive(Clone, Copy)]
 pub struct Text<'a>(pub &'a [u8]);
 
@@ -51,14 +47,6 @@ pub struct Both<A, B>(pub A, pub B);
 macro_rules! pieces {
     ($a:expr) => { $a };
     ($a:expr, $($rest:expr),+) => { $crate::pieces::Both($a, $crate::pieces!($($rest),+)) };
-}
-
-impl Piece for Lit {
-    ghost spelled = { λ x. x.0.now };
-
-    fn print(self, w: &mut Writer) -> Result<(), WriteFault> {
-        w.text(self.0)
-    }
 }
 
 impl Piece for Text<'_> {
