@@ -4,14 +4,14 @@ use std::alloc::{AllocError, Global};
 
 pub const MOST_SEGMENTS: usize = 4;
 
-// A segment goes from its start up to the next segment's start.
+/// A segment goes from its start up to the next segment's start.
 #[derive(Clone, Copy)]
 pub struct Segment<'a> {
     pub name: &'a [u8],
     pub start: usize,
 }
 
-// Which part of the archive is opened: with the front matter or without it, from one entry up to another or whole.
+/// Which part of the archive is opened: with the front matter or without it, from one entry up to another or whole.
 #[derive(Clone, Copy)]
 pub struct Opening {
     pub front: bool,

@@ -103,3 +103,7 @@ abbrev pub naming_fault : NamingRow → Option RowFault
 naming_fault r =
     cond (mnemonic_wrong r.mnemonic.now) (Some RowFault.Mnemonic)
     (cond (nat_lt 6 r.option || (memory_outside r.memory || memory_outside r.broadcast)) (Some RowFault.NamingCode) None)
+
+-- The first check that a form's row and its naming's fail: those of the form, then those of the naming.
+unfoldable pub pair_fault : FormRow → NamingRow → Option RowFault
+pair_fault r n = or_else (form_fault r) (naming_fault n)

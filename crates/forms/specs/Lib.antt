@@ -1,4 +1,6 @@
 pub mod Faults
+pub mod Reasons
+pub mod Pseudo
 pub mod Operands
 pub mod Checks
 pub mod Forms

@@ -1,6 +1,6 @@
 // The checks of rows, in the order of their numbers.
 ghost use Rattle.std.specs.Prelude.{◌≡◌};
-ghost use Rattle.forms.specs.Checks.{codes_outside, operands_wrong, no_size, opcode_wrong, index_outside, length_wrong, broadcast_wrong, operands_fault, numbers_fault, form_fault, mnemonic_wrong, in_set, all_in_set, memory_outside, naming_fault};
+ghost use Rattle.forms.specs.Checks.{codes_outside, operands_wrong, no_size, opcode_wrong, index_outside, length_wrong, broadcast_wrong, operands_fault, numbers_fault, form_fault, mnemonic_wrong, in_set, all_in_set, memory_outside, naming_fault, pair_fault};
 ghost use Rattle.forms.specs.Operands.{kinds_of};
 
 use crate::fault::RowFault;
@@ -109,15 +109,12 @@ fn numbers_fault(row: &FormRow, kinds: &[OperandKind; 5]) -> Option<RowFault>
 }
 
 impl FormRow {
-    // The first check that the row fails, of 1 to 9.
+    /// The first check that the row fails, of 1 to 9.
     pub fn check(&self) -> Option<RowFault>
         ensures { result ≡ form_fault self.now }
     {
         let kinds = kinds_of(self);
-        match operands_fault(self, &kinds) {
-            Some(fault) => Some(fault),
-            None => numbers_fault(self, &kinds),
-        }
+        operands_fault(self, &kinds).or_else(|| numbers_fault(self, &kinds))
     }
 }
 
@@ -151,7 +148,7 @@ fn memory_outside(memory: MemoryRow) -> bool
 }
 
 impl NamingRow<'_> {
-    // The first check that the row fails, of 10 and 11.
+    /// The first check that the row fails, of 10 and 11.
     pub fn check(&self) -> Option<RowFault>
         ensures { result ≡ naming_fault self.now }
     {
@@ -162,5 +159,15 @@ impl NamingRow<'_> {
             return Some(RowFault::NamingCode);
         }
         None
+    }
+}
+
+/// The first check that a form's row and its naming's fail: those of the form, 1 to 9, then those of the naming, 10 and 11.
+pub fn check_pair(row: &FormRow, naming: &NamingRow) -> Option<RowFault>
+    ensures { result ≡ pair_fault row.now naming.now }
+{
+    match row.check() {
+        Some(fault) => Some(fault),
+        None => naming.check(),
     }
 }

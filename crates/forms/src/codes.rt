@@ -1,6 +1,6 @@
 // What the codes of a row stand for, each set in the order of its numbers, from 0.
 
-// How the opcode is encoded. Code 5, MVEX, is a code too; no description has it.
+/// How the opcode is encoded. Code 5, MVEX, is a code too; no description has it.
 #[derive(Clone, Copy, Debug, PartialEq, Eq)]
 pub enum Encoding {
     Legacy,
@@ -10,7 +10,7 @@ pub enum Encoding {
     D3now,
 }
 
-// The opcode table; Map8 to Map10 are the tables of XOP.
+/// The opcode table; Map8 to Map10 are the tables of XOP.
 #[derive(Clone, Copy, Debug, PartialEq, Eq)]
 pub enum Table {
     Normal,
@@ -24,7 +24,7 @@ pub enum Table {
     Map10,
 }
 
-// The mandatory prefix; Pnp says that none of 66, F3 and F2 may stand there.
+/// The mandatory prefix; Pnp says that none of 66, F3 and F2 may stand there.
 #[derive(Clone, Copy, Debug, PartialEq, Eq)]
 pub enum Prefix {
     Absent,
@@ -34,7 +34,7 @@ pub enum Prefix {
     Pf2,
 }
 
-// How the vector length is spelled: as 128, 256, 512, as L0, L1, L2, or as LZ.
+/// How the vector length is spelled: as 128, 256, 512, as L0, L1, L2, or as LZ.
 #[derive(Clone, Copy, Debug, PartialEq, Eq)]
 pub enum LengthKind {
     Absent,
@@ -43,7 +43,7 @@ pub enum LengthKind {
     Lz,
 }
 
-// The vector length, numbers 0 to 2.
+/// The vector length, numbers 0 to 2.
 #[derive(Clone, Copy, Debug, PartialEq, Eq)]
 pub enum VectorLength {
     V128,
@@ -51,7 +51,7 @@ pub enum VectorLength {
     V512,
 }
 
-// An address or operand size that the form fixes, in bits.
+/// An address or operand size that the form fixes, in bits.
 #[derive(Clone, Copy, Debug, PartialEq, Eq)]
 pub enum Size {
     Absent,
@@ -60,8 +60,8 @@ pub enum Size {
     S64,
 }
 
-// What is special about a form: the six entries that are no instructions, forms with a memory or register spelling of
-// their own, and the groups of operands that are implied.
+/// What is special about a form: the six entries that are no instructions, forms with a memory or register spelling of
+/// their own, and the groups of operands that are implied.
 #[derive(Clone, Copy, Debug, PartialEq, Eq)]
 pub enum Tag {
     Plain,
@@ -83,7 +83,7 @@ pub enum Tag {
     ImpliedEax,
 }
 
-// How the operands of a signature are numbered and walked.
+/// How the operands of a signature are numbered and walked.
 #[derive(Clone, Copy, Debug, PartialEq, Eq)]
 pub enum NamingOption {
     Plain,
@@ -95,7 +95,7 @@ pub enum NamingOption {
     VecIndexSameAsOpIndex,
 }
 
-// What a memory holds, where its size alone does not say it.
+/// What a memory holds, where its size alone does not say it.
 #[derive(Clone, Copy, Debug, PartialEq, Eq)]
 pub enum MemoryLabel {
     Plain,

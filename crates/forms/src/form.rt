@@ -2,7 +2,7 @@
 use crate::codes::{Encoding, LengthKind, MemoryLabel, Prefix, Size, Table, Tag, VectorLength};
 use kinds::OperandKind;
 
-// The flag bits 0 to 10, in their order.
+/// The flag bits 0 to 10, in their order.
 #[derive(Clone, Copy, Debug, PartialEq, Eq)]
 pub struct Flags {
     pub lig: bool,
@@ -18,7 +18,7 @@ pub struct Flags {
     pub fpu: bool,
 }
 
-// `wide` says that the opcode has two bytes; group and rm are the fields of ModRM that the form fixes.
+/// `wide` says that the opcode has two bytes; group and rm are the fields of ModRM that the form fixes.
 #[derive(Clone, Copy, Debug, PartialEq, Eq)]
 pub struct Form {
     pub encoding: Encoding,

@@ -1,6 +1,6 @@
 // Plain rows, as they are typed or stored: any number may stand in them.
 
-// One form. The first `count` of the five operand kinds are its operands; `bytes` is the opcode's length.
+/// One form. The first `count` of the five operand kinds are its operands; `bytes` is the opcode's length.
 #[derive(Clone, Copy, Debug, PartialEq, Eq)]
 pub struct FormRow {
     pub encoding: u32,
@@ -20,14 +20,14 @@ pub struct FormRow {
     pub tag: u32,
 }
 
-// A memory operand's label and its size in bytes.
+/// A memory operand's label and its size in bytes.
 #[derive(Clone, Copy, Debug, PartialEq, Eq)]
 pub struct MemoryRow {
     pub label: u32,
     pub size: u32,
 }
 
-// How a form is named: its mnemonic, the numbering option, and its memory, normal and broadcast.
+/// How a form is named: its mnemonic, the numbering option, and its memory, normal and broadcast.
 #[derive(Clone, Copy, Debug, PartialEq, Eq)]
 pub struct NamingRow<'a> {
     pub mnemonic: &'a [u8],

@@ -3,7 +3,7 @@ ghost use Rattle.std.specs.Prelude.{◌≡◌, ◌+◌, [], ◌∷◌, length};
 ghost use Rattle.std.specs.Str.{bytes_eq};
 ghost use Rattle.jobs.specs.Fields.{part_of, split, split_rest};
 
-// The text up to the first byte `at`, and what follows that byte, if it is there.
+/// The text up to the first byte `at`, and what follows that byte, if it is there.
 pub fn cut<'a>(t: &'a [u8], at: u8) -> (&'a [u8], Option<&'a [u8]>)
     ensures { split at t.now ≡ result.0.now ∷ split_rest at result.1 }
 {

@@ -128,7 +128,7 @@ fn read_naming<'a>(line: &'a [u8]) -> Option<NamingRow<'a>>
     })
 }
 
-// The row that a line spells. No line spells an empty mnemonic: two spaces after each other make no row.
+/// The row that a line spells. No line spells an empty mnemonic: two spaces after each other make no row.
 pub fn read_row<'a>(line: &'a [u8]) -> Option<(FormRow, NamingRow<'a>)>
     ensures { option_map rows_seen result ≡ row_of line.now }
 {

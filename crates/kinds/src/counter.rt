@@ -4,7 +4,7 @@ ghost use Rattle.kinds.specs.Counters.{counter_of};
 
 use crate::table::{Class, Width};
 
-// The counts that run along a signature. Letter32 and Letter64 count the plain registers of a width.
+/// The counts that run along a signature. Letter32 and Letter64 count the plain registers of a width.
 #[derive(Clone, Copy, Debug, PartialEq, Eq)]
 pub enum Counter {
     Uncounted,
@@ -17,7 +17,7 @@ pub enum Counter {
 }
 
 impl Class {
-    // The count that an operand of this class moves on.
+    /// The count that an operand of this class moves on.
     pub fn counter(self) -> Counter
         ensures { result ≡ counter_of self }
     {

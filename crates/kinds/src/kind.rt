@@ -2,7 +2,7 @@
 ghost use Rattle.std.specs.Prelude.{◌≡◌, Some};
 ghost use Rattle.kinds.specs.Kinds.{kinds, kind_at, place_of};
 
-// How an operand is encoded and what it may be. Absent stands where there is no operand.
+/// How an operand is encoded and what it may be. Absent stands where there is no operand.
 #[derive(Clone, Copy, Debug, PartialEq, Eq)]
 pub enum OperandKind {
     R32Reg,
@@ -243,14 +243,14 @@ impl OperandKind {
         self as usize
     }
 
-    // The kind's number.
+    /// The kind's number.
     pub fn code(self) -> u32
         ensures { kind_at result ≡ Some self }
     {
         self.place() as u32
     }
 
-    // The kind with this number, if one has it.
+    /// The kind with this number, if one has it.
     pub fn from_code(code: u32) -> Option<OperandKind>
         ensures { result ≡ kind_at code }
     {

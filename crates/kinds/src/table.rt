@@ -6,7 +6,7 @@ ghost use Rattle.kinds.specs.Rows.{row_of, class_of, suffix_of, role_of};
 use self::Width::{W8, W16, W32, W64};
 use crate::kind::OperandKind;
 
-// The size of a general register.
+/// The size of a general register.
 #[derive(Clone, Copy, Debug, PartialEq, Eq)]
 pub enum Width {
     W8,
@@ -15,7 +15,7 @@ pub enum Width {
     W64,
 }
 
-// The registers that share the count of vectors.
+/// The registers that share the count of vectors.
 #[derive(Clone, Copy, Debug, PartialEq, Eq)]
 pub enum Bank {
     Mm,
@@ -24,7 +24,7 @@ pub enum Bank {
     Zmm,
 }
 
-// A register that the opcode fixes.
+/// A register that the opcode fixes.
 #[derive(Clone, Copy, Debug, PartialEq, Eq)]
 pub enum Register {
     Es,
@@ -41,7 +41,7 @@ pub enum Register {
     Rax,
 }
 
-// An operand that prints as a fixed word.
+/// An operand that prints as a fixed word.
 #[derive(Clone, Copy, Debug, PartialEq, Eq)]
 pub enum Word {
     Ptr1616,
@@ -71,8 +71,8 @@ pub enum Word {
     Sibmem,
 }
 
-// How an operand is printed in a signature. Missing is no operand, Hidden is one that leaves no text,
-// and Strings is one of a string instruction or of xlat, which print no operand at all.
+/// How an operand is printed in a signature. Missing is no operand, Hidden is one that leaves no text,
+/// and Strings is one of a string instruction or of xlat, which print no operand at all.
 #[derive(Clone, Copy, Debug, PartialEq, Eq)]
 pub enum Class {
     Missing,
@@ -97,7 +97,7 @@ pub enum Class {
     Sti,
 }
 
-// What an operand adds at the end of an opcode string.
+/// What an operand adds at the end of an opcode string.
 #[derive(Clone, Copy, Debug, PartialEq, Eq)]
 pub enum Suffix {
     Plain,
@@ -114,24 +114,24 @@ pub enum Suffix {
     Mo,
 }
 
-// The part that an operand has in the opcode string.
+/// The part that an operand has in the opcode string.
 #[derive(Clone, Copy, Debug, PartialEq, Eq)]
 pub enum Role {
-    // None.
+    /// None.
     Plain,
-    // A register, or a register or memory, that the ModRM byte holds.
+    /// A register, or a register or memory, that the ModRM byte holds.
     ModRm,
-    // Memory by the ModRM byte.
+    /// Memory by the ModRM byte.
     Mem,
-    // Memory by an offset after the opcode, with no ModRM byte.
+    /// Memory by an offset after the opcode, with no ModRM byte.
     Moffs,
-    // Memory by the ModRM byte, with a vector of indices.
+    /// Memory by the ModRM byte, with a vector of indices.
     Vsib,
-    // Memory by the ModRM byte, with a SIB byte.
+    /// Memory by the ModRM byte, with a SIB byte.
     Sibmem,
-    // A register in the low bits of the opcode.
+    /// A register in the low bits of the opcode.
     OpcodeReg(Width),
-    // A register of the FPU stack in the low bits of the opcode.
+    /// A register of the FPU stack in the low bits of the opcode.
     Sti,
 }
 
@@ -263,21 +263,21 @@ impl OperandKind {
         rows()[self.place()]
     }
 
-    // How the operand is printed in a signature.
+    /// How the operand is printed in a signature.
     pub fn class(self) -> Class
         ensures { result ≡ class_of self }
     {
         self.row().0
     }
 
-    // What the operand adds at the end of an opcode string.
+    /// What the operand adds at the end of an opcode string.
     pub fn suffix(self) -> Suffix
         ensures { result ≡ suffix_of self }
     {
         self.row().1
     }
 
-    // The operand's part in the opcode string.
+    /// The operand's part in the opcode string.
     pub fn role(self) -> Role
         ensures { result ≡ role_of self }
     {

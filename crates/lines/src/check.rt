@@ -7,14 +7,14 @@ use forms::fault::RowFault;
 use forms::naming::Naming;
 use forms::row::{FormRow, NamingRow};
 
-// A form and its name.
+/// A form and its name.
 #[derive(Clone, Copy)]
 pub struct Entry {
     pub description: Description,
     pub naming: Naming,
 }
 
-// What a row and its naming stand for, or the first check that fails, of 1 to 11.
+/// What a row and its naming stand for, or the first check that fails, of 1 to 11.
 pub fn checked(row: &FormRow, naming: &NamingRow) -> Result<Entry, RowFault>
     ensures { both_got result ≡ both_of row.now naming.now }
 {

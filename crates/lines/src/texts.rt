@@ -10,13 +10,13 @@ use opcode::print_opcode;
 use signature::print_signature;
 use text::writer::Writer;
 
-// No opcode string is longer.
+/// No opcode string is longer.
 pub const OPCODE_BYTES: usize = 96;
 
-// No signature is longer.
+/// No signature is longer.
 pub const SIGNATURE_BYTES: usize = 256;
 
-// The opcode string, at the front of the room.
+/// The opcode string, at the front of the room.
 pub fn opcode_text<'a>(room: &'a mut [u8; OPCODE_BYTES], description: &Description) -> &'a [u8]
     ensures { result.now ≡ opcode_text (form_in description.now) }
 {
@@ -26,7 +26,7 @@ pub fn opcode_text<'a>(room: &'a mut [u8; OPCODE_BYTES], description: &Descripti
     &room[0..n]
 }
 
-// The signature, at the front of the room.
+/// The signature, at the front of the room.
 pub fn signature_text<'a>(
     room: &'a mut [u8; SIGNATURE_BYTES],
     description: &Description,

@@ -61,7 +61,7 @@ fn swaps_masks(option: NamingOption) -> bool
 }
 
 impl Plan {
-    // What is decided for a form under an option.
+    /// What is decided for a form under an option.
     pub fn of(description: &Description, option: NamingOption) -> Plan
         ensures { result ≡ plan_of (form_in description.now) option }
     {

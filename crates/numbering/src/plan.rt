@@ -1,6 +1,6 @@
 // What a signature decides before its operands are walked.
 
-// How vectors are numbered: not at all, by their place, from 1, from 2, or 2, 1, 3, 4, 5.
+/// How vectors are numbered: not at all, by their place, from 1, from 2, or 2, 1, 3, 4, 5.
 #[derive(Clone, Copy)]
 pub enum VectorRule {
     Unnumbered,
@@ -10,8 +10,8 @@ pub enum VectorRule {
     Swapped,
 }
 
-// `swaps`: masks are numbered 2, 1, 3 in place of 1, 2, 3. `bounds`: bound registers have numbers. `letters32` and
-// `letters64`: general registers of that width have letters.
+/// `swaps`: masks are numbered 2, 1, 3 in place of 1, 2, 3. `bounds`: bound registers have numbers. `letters32` and
+/// `letters64`: general registers of that width have letters.
 #[derive(Clone, Copy)]
 pub struct Plan {
     pub vectors: VectorRule,

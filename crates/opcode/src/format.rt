@@ -51,7 +51,7 @@ fn format(w: &mut Writer, form: &Form, operands: &[OperandKind]) -> Result<(), W
     }
 }
 
-// Prints the opcode string, a line of 1 to 96 bytes.
+/// Prints the opcode string, a line of 1 to 96 bytes.
 pub fn print_opcode(w: &mut Writer, description: &Description) -> Result<(), WriteFault>
     ensures text { Wrote w.old (opcode_text (form_in description.now)) w.new result }
     ensures line { Line 96 (opcode_text (form_in description.now)) }
@@ -61,7 +61,7 @@ pub fn print_opcode(w: &mut Writer, description: &Description) -> Result<(), Wri
     format(w, &form, description.operands())
 }
 
-// The opcode string as a piece.
+/// The opcode string as a piece.
 #[derive(Clone, Copy)]
 pub struct OpcodeString<'a>(pub &'a Description);
 

@@ -21,7 +21,7 @@ fn is_descriptor_table(tag: Tag) -> bool
     matches!(tag, Tag::DescriptorTable)
 }
 
-// The size, or what the label says in its place; `table` is set for sgdt and sidt.
+/// The size, or what the label says in its place; `table` is set for sgdt and sidt.
 #[derive(Clone, Copy)]
 pub struct LabelText {
     pub table: bool,
@@ -69,7 +69,7 @@ impl Piece for LabelText {
     }
 }
 
-// What an FPU instruction's memory holds.
+/// What an FPU instruction's memory holds.
 #[derive(Clone, Copy)]
 pub struct FpuText(pub MemoryLabel);
 
@@ -86,7 +86,7 @@ impl Piece for FpuText {
     }
 }
 
-// What follows the `m` of a memory.
+/// What follows the `m` of a memory.
 #[derive(Clone, Copy)]
 pub struct SizeText {
     pub setting: Setting,
@@ -112,7 +112,7 @@ impl Piece for SizeText {
     }
 }
 
-// The memory, and its broadcast element if it has one.
+/// The memory, and its broadcast element if it has one.
 #[derive(Clone, Copy)]
 pub struct MemoryText(pub Setting);
 
@@ -154,7 +154,7 @@ fn bits(width: Width) -> u32
     }
 }
 
-// The width of a general register, in bits.
+/// The width of a general register, in bits.
 #[derive(Clone, Copy)]
 pub struct WidthText(pub Width);
 
@@ -171,7 +171,7 @@ impl Piece for WidthText {
     }
 }
 
-// A general register or memory.
+/// A general register or memory.
 #[derive(Clone, Copy)]
 pub struct GprMemText {
     pub setting: Setting,

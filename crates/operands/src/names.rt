@@ -82,7 +82,7 @@ impl Piece for RegisterName {
     }
 }
 
-// The number of a register, if it has one.
+/// The number of a register, if it has one.
 #[derive(Clone, Copy)]
 pub struct Number(pub Option<u8>);
 
@@ -97,7 +97,7 @@ impl Piece for Number {
     }
 }
 
-// The letter of a register, if it has one.
+/// The letter of a register, if it has one.
 #[derive(Clone, Copy)]
 pub struct Letter(pub Option<u8>);
 

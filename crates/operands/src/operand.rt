@@ -10,7 +10,7 @@ use text::pieces;
 use text::pieces::{Piece, Text};
 use text::writer::{WriteFault, Writer};
 
-// `label` is the number or letter right after the register's name.
+/// `label` is the number or letter right after the register's name.
 #[derive(Clone, Copy)]
 pub struct Operand {
     pub setting: Setting,

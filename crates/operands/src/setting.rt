@@ -3,15 +3,15 @@ use forms::codes::{MemoryLabel, Tag};
 use forms::form::Flags;
 use numbering::plan::Plan;
 
-// A memory's label, and its size in bits.
+/// A memory's label, and its size in bits.
 #[derive(Clone, Copy)]
 pub struct Sized {
     pub label: MemoryLabel,
     pub bits: u32,
 }
 
-// `memory` and `element` are the normal and the broadcast memory; `last` is how many operands stand before {sae} and {er},
-// the one that they follow included.
+/// `memory` and `element` are the normal and the broadcast memory; `last` is how many operands stand before {sae} and {er},
+/// the one that they follow included.
 #[derive(Clone, Copy)]
 pub struct Setting {
     pub tag: Tag,

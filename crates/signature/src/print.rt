@@ -12,7 +12,7 @@ use forms::codes::Tag;
 use forms::description::Description;
 use forms::naming::Naming;
 use text::pieces;
-use text::pieces::{Text, Piece, Upper, When};
+use text::pieces::{Piece, Text, Upper, When};
 use text::writer::{WriteFault, Writer};
 
 fn is_pseudo(tag: Tag) -> bool
@@ -57,8 +57,8 @@ fn print_text(w: &mut Writer, description: &Description, naming: &Naming) -> Res
     print_operands(w, &setting, start_of(option), kinds)
 }
 
-// The signature of a form under a name, into lent bytes: a line of 1 to 256 bytes, in which the numbers of a class of
-// registers differ and letters run without a gap.
+/// The signature of a form under a name, into lent bytes: a line of 1 to 256 bytes, in which the numbers of a class of
+/// registers differ and letters run without a gap.
 pub fn print_signature(
     w: &mut Writer,
     description: &Description,

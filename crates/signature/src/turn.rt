@@ -12,10 +12,10 @@ use crate::counts::Numbering;
 use kinds::OperandKind;
 use operands::{Operand, Setting};
 use text::pieces;
-use text::pieces::{Decimal, Text, Piece, When};
+use text::pieces::{Decimal, Piece, Text, When};
 use text::writer::{WriteFault, Writer};
 
-// The mask after operand 0, if there is one.
+/// The mask after operand 0, if there is one.
 #[derive(Clone, Copy)]
 pub struct Mask(pub Option<u8>);
 

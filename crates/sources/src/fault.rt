@@ -7,13 +7,13 @@ use forms::fault::RowFault;
 
 #[derive(Clone, Copy, Debug, PartialEq)]
 pub enum SourceFault {
-    // 1 to 11: a row fails this check.
+    /// 1 to 11: a row fails this check.
     Row(RowFault),
-    // 12: a window starts after its end, or ends above the count.
+    /// 12: a window starts after its end, or ends above the count.
     WindowBounds,
-    // 13: more entries than a source may have.
+    /// 13: more entries than a source may have.
     TooManyEntries,
-    // 14: the number is not below the count.
+    /// 14: the number is not below the count.
     NoEntry,
 }
 
@@ -26,7 +26,7 @@ impl From<RowFault> for SourceFault {
 }
 
 impl SourceFault {
-    // The refusal's number.
+    /// The refusal's number.
     pub fn number(self) -> u32
         ensures { result ≡ number_of self }
     {

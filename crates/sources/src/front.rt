@@ -10,7 +10,7 @@ use forms::description::Description;
 use forms::naming::Naming;
 use forms::row::{FormRow, MemoryRow, NamingRow};
 
-// The source of the six.
+/// The source of the six.
 #[derive(Clone, Copy)]
 pub struct FrontMatter;
 

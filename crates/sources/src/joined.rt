@@ -9,7 +9,7 @@ use crate::source::{MOST, NamingSource, Source};
 use forms::description::Description;
 use forms::naming::Naming;
 
-// The list of `first`, and then that of `second`.
+/// The list of `first`, and then that of `second`.
 #[derive(Drop)]
 pub struct Joined<A, B> {
     pub first: A,
@@ -17,7 +17,7 @@ pub struct Joined<A, B> {
 }
 
 impl<A: Source, B: Source> Joined<A, B> {
-    // 13 where there are too many entries: it then has none.
+    /// 13 where there are too many entries: it then has none.
     pub fn check(&self) -> Result<(), SourceFault>
         ensures { result ≡ check_joined (length (A.Source.list self.now.first)) (length (B.Source.list self.now.second)) }
     {

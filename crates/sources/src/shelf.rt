@@ -10,7 +10,7 @@ use forms::fault::RowFault;
 use forms::naming::Naming;
 use forms::row::{FormRow, NamingRow};
 
-// The rows of forms and those of their names; the two at one place are a pair.
+/// The rows of forms and those of their names; the two at one place are a pair.
 #[derive(Clone, Copy)]
 pub struct Shelf<'r, 'n, 't> {
     rows: &'r [FormRow],
@@ -36,7 +36,7 @@ fn pairs(rows: &[FormRow], namings: &[NamingRow]) -> usize
     rows.len().min(namings.len())
 }
 
-// The place and the fault of the first pair of rows that fails a check.
+/// The place and the fault of the first pair of rows that fails a check.
 pub fn first_refused(rows: &[FormRow], namings: &[NamingRow]) -> Option<(usize, RowFault)>
     ensures { result ≡ first_refused rows.now namings.now }
 {
@@ -61,7 +61,7 @@ fn check_shelf(rows: &[FormRow], namings: &[NamingRow]) -> Result<(), SourceFaul
 }
 
 impl<'r, 'n, 't> Shelf<'r, 'n, 't> {
-    // The shelf of the rows, as many as have a partner; one that fails its check has no entries.
+    /// The shelf of the rows, as many as have a partner; one that fails its check has no entries.
     pub fn new(rows: &'r [FormRow], namings: &'n [NamingRow<'t>]) -> Shelf<'r, 'n, 't>
         ensures rows { result.rows.now ≡ rows.now }
         ensures namings { result.namings.now ≡ namings.now }
@@ -77,7 +77,7 @@ impl<'r, 'n, 't> Shelf<'r, 'n, 't> {
         }
     }
 
-    // The first check, of 1 to 11, that the first failing pair of rows fails; then 13 where there are too many.
+    /// The first check, of 1 to 11, that the first failing pair of rows fails; then 13 where there are too many.
     pub fn check(&self) -> Result<(), SourceFault>
         ensures { result ≡ check_shelf self.now.rows.now self.now.namings.now }
     {

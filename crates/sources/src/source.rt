@@ -9,10 +9,10 @@ use crate::fault::SourceFault;
 use forms::description::Description;
 use forms::naming::Naming;
 
-// No source has more entries.
+/// No source has more entries.
 pub const MOST: u32 = 65536;
 
-// What is fetched by its number, from 0.
+/// What is fetched by its number, from 0.
 pub trait Source {
     ghost list: { Self → List Form };
 
@@ -21,21 +21,21 @@ pub trait Source {
     fn count(&self) -> u32
         ensures { result ≡ length (list self.now) };
 
-    // The form of an entry.
+    /// The form of an entry.
     fn fetch(&self, n: u32) -> Result<Description, SourceFault>
         ensures { form_got result ≡ fetched (list self.now) n };
 }
 
-// A source whose entries are named: a second list, as long as the first.
+/// A source whose entries are named: a second list, as long as the first.
 pub trait NamingSource: Source {
     ghost names: { Self → List Name };
 
-    // The count of both lists.
+    /// The count of both lists.
     fn naming_count(&self) -> u32
         ensures named { result ≡ length (names self.now) }
         ensures listed { result ≡ length (Self.Source.list self.now) };
 
-    // The name of an entry; there is one exactly where there is a form.
+    /// The name of an entry; there is one exactly where there is a form.
     fn fetch_naming(&self, n: u32) -> Result<Naming, SourceFault>
         ensures got { name_got result ≡ fetched (names self.now) n }
         ensures within { is_ok result ≡ nat_lt n (length (Self.Source.list self.now)) };

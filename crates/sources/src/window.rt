@@ -9,7 +9,7 @@ use crate::source::{NamingSource, Source};
 use forms::description::Description;
 use forms::naming::Naming;
 
-// The entries from `from` up to, without, `to`.
+/// The entries from `from` up to, without, `to`.
 #[derive(Drop)]
 pub struct Window<S> {
     pub source: S,
@@ -18,7 +18,7 @@ pub struct Window<S> {
 }
 
 impl<S: Source> Window<S> {
-    // 12 where the window starts after its end or ends above the count: it then has no entries.
+    /// 12 where the window starts after its end or ends above the count: it then has no entries.
     pub fn check(&self) -> Result<(), SourceFault>
         ensures { result ≡ check_window (length (S.Source.list self.now.source)) self.now.from self.now.to }
     {

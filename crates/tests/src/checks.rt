@@ -2,7 +2,7 @@
 // rows of the archive's stored job.
 use forms::row::FormRow;
 
-// A plain row that passes: `01 /r` with a general register and memory.
+/// A plain row that passes: `01 /r` with a general register and memory.
 pub const PLAIN: FormRow = FormRow {
     encoding: 0,
     table: 0,

@@ -21,7 +21,7 @@ fn is_like(description: &Description, naming: &Naming, opcode: u16, letters: usi
     description.form().opcode == opcode && naming.mnemonic().len() == letters
 }
 
-// How many entries have the opcode and a mnemonic of so many letters.
+/// How many entries have the opcode and a mnemonic of so many letters.
 pub fn count_like<S: NamingSource>(source: &S, opcode: u16, letters: usize) -> u32
     ensures { result ≡ alike opcode letters (S.Source.list source.now) (S.NamingSource.names source.now) }
 {
@@ -42,7 +42,7 @@ pub fn count_like<S: NamingSource>(source: &S, opcode: u16, letters: usize) -> u
     found
 }
 
-// The same in a window over the front matter and then a shelf.
+/// The same in a window over the front matter and then a shelf.
 pub fn count_in_archive(
     rows: &[FormRow],
     namings: &[NamingRow],

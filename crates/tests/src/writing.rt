@@ -5,7 +5,7 @@ mod tests {
     use std::fmt::Debug;
     use std::test::Fail;
     use text::pieces;
-    use text::pieces::{Decimal, Hex, Text, Piece, Upper};
+    use text::pieces::{Decimal, Hex, Piece, Text, Upper};
     use text::render::render;
     use text::writer::WriteFault;
 

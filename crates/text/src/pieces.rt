@@ -1,12 +1,13 @@
 // Texts as values: what is printed is a `Piece`, and pieces put together are a piece again.
-ghost use Rattle.std.specs.Prelude.{ℕ, List, ◌++◌};
+ghost use Rattle.std.specs.Prelude.{ℕ, List, [], ◌∷◌, ◌++◌};
 ghost use Rattle.std.specs.List.{flat_map};
+ghost use Rattle.std.specs.Option.{option_map_or};
 ghost use Rattle.text.specs.Texts.{decimal_text, hex_text, upper_text, when};
 ghost use Rattle.text.specs.Wrote.{Wrote};
 
 use crate::writer::{WriteFault, Writer};
 
-// What can be printed; `spelled` is its text.
+/// What can be printed; `spelled` is its text.
 pub trait Piece: Drop {
     ghost spelled: { Self → List ℕ };
 
@@ -18,31 +19,35 @@ pub trait Piece: Drop {
 #[derive(Clone, Copy)]
 pub struct Text<'a>(pub &'a [u8]);
 
-// A byte as two upper-case hexadecimal digits.
+/// A byte, as it stands.
+#[derive(Clone, Copy)]
+pub struct Byte(pub u8);
+
+/// A byte as two upper-case hexadecimal digits.
 #[derive(Clone, Copy)]
 pub struct Hex(pub u8);
 
-// A number in its shortest decimal spelling.
+/// A number in its shortest decimal spelling.
 #[derive(Clone, Copy)]
 pub struct Decimal(pub u32);
 
-// A text in upper case.
+/// A text in upper case.
 #[derive(Clone, Copy)]
 pub struct Upper<'a>(pub &'a [u8]);
 
-// The piece where the flag is set, else nothing.
+/// The piece where the flag is set, else nothing.
 #[derive(Drop)]
 pub struct When<P>(pub bool, pub P);
 
-// The pieces of a slice, one after another.
+/// The pieces of a slice, one after another.
 #[derive(Drop)]
 pub struct Each<'a, P>(pub &'a [P]);
 
-// The first piece and then the second.
+/// The first piece and then the second.
 #[derive(Drop)]
 pub struct Both<A, B>(pub A, pub B);
 
-// Pieces, one after another.
+/// Pieces, one after another.
 #[macro_export]
 macro_rules! pieces {
     ($a:expr) => { $a };
@@ -54,6 +59,14 @@ impl Piece for Text<'_> {
 
     fn print(self, w: &mut Writer) -> Result<(), WriteFault> {
         w.text(self.0)
+    }
+}
+
+impl Piece for Byte {
+    ghost spelled = { λ x. x.0 ∷ [] };
+
+    fn print(self, w: &mut Writer) -> Result<(), WriteFault> {
+        w.byte(self.0)
     }
 }
 
@@ -87,6 +100,18 @@ impl<P: Piece> Piece for When<P> {
     fn print(self, w: &mut Writer) -> Result<(), WriteFault> {
         let When(yes, p) = self;
         if yes { p.print(w) } else { w.text(b"") }
+    }
+}
+
+/// The piece where there is one, else nothing.
+impl<P: Piece> Piece for Option<P> {
+    ghost spelled = { λ x. option_map_or P.Piece.spelled x [] };
+
+    fn print(self, w: &mut Writer) -> Result<(), WriteFault> {
+        match self {
+            Some(p) => p.print(w),
+            None => w.text(b""),
+        }
     }
 }
 

@@ -41,7 +41,7 @@ fn decimal(t: &[u8]) -> Option<u32>
     number(10, t)
 }
 
-// One to five decimal digits without leading zeros.
+/// One to five decimal digits without leading zeros.
 pub fn read_decimal(t: &[u8]) -> Option<u32>
     ensures value { result ≡ decimal_of t.now }
     ensures inverse { Inverse t.now result }
@@ -55,7 +55,7 @@ fn is_minus_one(t: &[u8]) -> bool
     t == b"-1".as_slice()
 }
 
-// The same, or `-1`.
+/// The same, or `-1`.
 pub fn read_index(t: &[u8]) -> Option<i32>
     ensures { result ≡ index_of t.now }
 {
@@ -68,7 +68,7 @@ pub fn read_index(t: &[u8]) -> Option<i32>
     }
 }
 
-// Two upper-case hexadecimal digits.
+/// Two upper-case hexadecimal digits.
 pub fn read_hex2(t: &[u8]) -> Option<u8>
     ensures { result ≡ hex_of 2 t.now }
 {
@@ -79,7 +79,7 @@ pub fn read_hex2(t: &[u8]) -> Option<u8>
     Some(n as u8)
 }
 
-// Four upper-case hexadecimal digits.
+/// Four upper-case hexadecimal digits.
 pub fn read_hex4(t: &[u8]) -> Option<u16>
     ensures { result ≡ hex_of 4 t.now }
 {

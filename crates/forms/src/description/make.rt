@@ -11,7 +11,7 @@ use crate::typed::typed;
 use kinds::OperandKind;
 
 impl Description {
-    // The description of a row, or the first check, of 1 to 9, that the row fails.
+    /// The description of a row, or the first check, of 1 to 9, that the row fails.
     pub fn from_row(row: &FormRow) -> Result<Description, RowFault>
         ensures { form_got result ≡ described row.now }
     {
@@ -21,7 +21,7 @@ impl Description {
         }
     }
 
-    // The form itself.
+    /// The form itself.
     pub fn form(&self) -> Form
         ensures value { result ≡ form_in self.now }
         ensures few { result.count ≤ 5 }
@@ -29,7 +29,7 @@ impl Description {
         self.form
     }
 
-    // The operands in their order: the counted kinds.
+    /// The operands in their order: the counted kinds.
     pub fn operands(&self) -> &[OperandKind]
         ensures { result.now ≡ counted (form_in self.now) }
     {

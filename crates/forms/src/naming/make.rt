@@ -60,7 +60,7 @@ fn padded(bytes: &[u8]) -> [u8; 32]
 }
 
 impl Naming {
-    // The naming of a row, or the first check, of 10 and 11, that the row fails.
+    /// The naming of a row, or the first check, of 10 and 11, that the row fails.
     pub fn from_row(row: &NamingRow) -> Result<Naming, RowFault>
         ensures { name_got result ≡ named row.now }
     {

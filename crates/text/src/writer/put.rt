@@ -19,7 +19,7 @@ fn upper(b: u8) -> u8
 }
 
 impl<'a> Writer<'a> {
-    // Nothing is written yet.
+    /// Nothing is written yet.
     pub fn new(out: &'a mut [u8]) -> Writer<'a>
         ensures { (result.out.ghost_name ≡ out.entry.ghost_name) × (result.out.now ≡ out.old) × (result.at ≡ 0) }
     {
@@ -28,7 +28,7 @@ impl<'a> Writer<'a> {
 }
 
 impl Writer<'_> {
-    // How many bytes are written.
+    /// How many bytes are written.
     pub fn written(&self) -> usize
         ensures { result ≡ self.now.at }
     {
@@ -66,7 +66,7 @@ impl Writer<'_> {
         Ok(())
     }
 
-    // Two upper-case digits.
+    /// Two upper-case digits.
     pub fn hex_byte(&mut self, b: u8) -> Result<(), WriteFault>
         ensures { Wrote self.old (hex_text b) self.new result }
     {
@@ -74,7 +74,7 @@ impl Writer<'_> {
         self.byte(hex_digit(b % 16))
     }
 
-    // With no leading zero.
+    /// With no leading zero.
     pub fn decimal(&mut self, n: u32) -> Result<(), WriteFault>
         ensures { Wrote self.old (decimal_text n) self.new result }
     {
