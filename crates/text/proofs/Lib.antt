@@ -1,3 +1,5 @@
 pub mod Numerals
+pub mod Overlays
 pub mod Sized
+pub mod Uppercase
 pub mod Writes

@@ -1,26 +1,11 @@
--- The laws of `overlay` and of `Wrote`. Assumes nothing.
-use Rattle.std.proofs.Common.{◌≡◌, ℕ, ◌+◌, ◌<◌, ◌≤◌, min, Bool, true, false, cond, leb, List, [], ◌∷◌, ◌++◌, length, set, IsErrAnd, Ok, Err, Result, sym, refl, ap, ◌∙◌, subst, append_assoc, append-nil, add-zero, arith, length-append, length-set, le-leb, leb-false, leb-true}
+-- The laws of `Wrote`. Assumes nothing.
+use Rattle.std.proofs.Common.{◌≡◌, ℕ, ◌+◌, ◌<◌, ◌≤◌, min, Bool, true, false, cond, leb, List, [], ◌∷◌, ◌++◌, length, IsErrAnd, Ok, Err, Result, sym, refl, ap, ◌∙◌, subst, append_assoc, append-nil, arith, length-append, le-leb, leb-false, leb-true}
 use borrow.Author.Tests.{lt-leb}
-use lib.Seq.{set_out}
 use Rattle.std.proofs.lemmas.Result.{err_from_is_err_and}
 use Rattle.text.specs.declared.writer.Writer.{Writer}
 use Rattle.text.specs.declared.writer.WriteFault.{WriteFault}
+use Rattle.text.proofs.Overlays.{length-overlay, overlay-append, overlay_past}
 use Rattle.text.specs.Wrote.{overlay, fits, full, WroteOr, Wrote}
-
-pub length-overlay : (xs : List ℕ) (i : ℕ) (t : List ℕ) → length (overlay xs i t) ≡ length xs
-unfolding overlay
-length-overlay xs i [] = refl
-length-overlay xs i (b ∷ t) = length-overlay (set xs i b) (i + 1) t ∙ length-set xs i b
-
-pub overlay-append : (xs : List ℕ) (i : ℕ) (t u : List ℕ) → overlay xs i (t ++ u) ≡ overlay (overlay xs i t) (i + length t) u
-unfolding overlay
-overlay-append xs i [] u = ap (λ n. overlay xs n u) (sym (add-zero i))
-overlay-append xs i (b ∷ t) u = overlay-append (set xs i b) (i + 1) t u ∙ ap (λ n. overlay (overlay (set xs i b) (i + 1) t) n u) (omega arith)
-
-pub overlay_past : (xs : List ℕ) (i : ℕ) (t : List ℕ) → length xs ≤ i → overlay xs i t ≡ xs
-unfolding overlay
-overlay_past xs i [] h = refl
-overlay_past xs i (b ∷ t) h = ap (λ ys. overlay ys (i + 1) t) (set_out xs i b h) ∙ overlay_past xs (i + 1) t (omega arith)
 
 module _ {E : Type 0} (e : E) where
   ok_fits : (b : Bool) {y : Unit {0}} → ◌≡◌ {A = Result (Unit {0}) E} (Ok y) (cond b (Ok tt) (Err e)) → b ≡ true
@@ -83,6 +68,18 @@ placed w v t same bytes place room = record { lent = same; bytes = bytes; place 
 pub nothing : {w : Writer} {y : Unit {0}} → Wrote w [] w (Ok y)
 unfolding overlay
 nothing {w} = placed w w [] refl refl (omega arith) (omega (arith, w.inside))
+
+pub nothing_as : (w : Writer) (s : List ℕ) → s ≡ [] → WroteOr (full w) w s w (Ok tt)
+nothing_as w s is = subst (λ t. Wrote w t w (Ok tt)) (sym is) nothing
+
+-- the same bytes with another text of the same length over them
+pub rewritten : {w v x : Writer} {t : List ℕ} (u : List ℕ) {r : Result (Unit {0}) WriteFault} → Wrote w t v r → length u ≡ length t → x.out.ghost_name ≡ v.out.ghost_name → x.out.now ≡ overlay w.out.now w.at u → x.at ≡ v.at → Wrote w u x r
+rewritten {w} {v} {x} {t} u p long same bytes place = let back = sym long in record {
+  lent = same ∙ p.lent;
+  bytes = bytes;
+  place = place ∙ p.place ∙ (λ i. min (w.at + back i) (length w.out.now));
+  answer = p.answer ∙ (λ i. cond (leb (w.at + back i) (length w.out.now)) (Ok tt) (Err (full w)));
+}
 
 -- where no byte has one
 pub no_place : (w : Writer) (b : ℕ) (t : List ℕ) → length w.out.now ≤ w.at → Wrote w (b ∷ t) w (Err (record { at = w.at }))
