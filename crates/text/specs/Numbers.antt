@@ -1,5 +1,6 @@
 -- Numbers read back from their texts. Assumes nothing.
-use Rattle.std.specs.Prelude.{◌≡◌, ℕ, ◌+◌, ◌-◌, ◌*◌, ◌<◌, Bool, true, cond, not, ◌&&◌, ◌||◌, List, [], ◌∷◌, length, ℤ, pos, negsuc, Some, None, codes, Option, MatchOption, ◌==◌, ◌≢◌, nat_lt, slice_index}
+use Rattle.std.specs.Prelude.{◌≡◌, ℕ, ◌+◌, ◌-◌, ◌*◌, ◌<◌, Bool, cond, not, ◌&&◌, ◌||◌, List, length, fold, ℤ, pos, negsuc, Some, None, codes, Option, MatchOption, ◌==◌, ◌≢◌, nat_lt, slice_index}
+use Rattle.std.specs.List.{list_all}
 use Rattle.std.specs.Option.{option_map}
 use Rattle.std.specs.Int.{is_in_range}
 use Rattle.std.specs.Str.{bytes_eq}
@@ -11,13 +12,11 @@ digit_value c = cond (is_in_range 48 57 c) (c - 48) (cond (is_in_range 65 70 c) 
 
 -- each byte is a digit of the base
 abbrev pub all_digits : ℕ → List ℕ → Bool
-all_digits base [] = true
-all_digits base (c ∷ cs) = nat_lt (digit_value c) base && all_digits base cs
+all_digits base t = list_all (λ c. nat_lt (digit_value c) base) t
 
 -- the number that more digits make of n
 abbrev pub number_after : ℕ → ℕ → List ℕ → ℕ
-number_after base n [] = n
-number_after base n (c ∷ cs) = number_after base (n * base + digit_value c) cs
+number_after base n t = fold (λ m c. m * base + digit_value c) n t
 
 -- the number that a text writes, if each of its bytes is a digit
 abbrev pub number_of : ℕ → List ℕ → Option ℕ

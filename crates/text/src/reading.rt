@@ -1,47 +1,47 @@
 // Numbers read back from their texts.
-ghost use Rattle.std.specs.Prelude.{◌≡◌, ◌^◌, ◌<◌, ◌≤◌, length, IfSome, codes};
+ghost use Rattle.std.specs.Prelude.{◌≡◌, ◌^◌, ◌<◌, ◌≤◌, length, IfSome, SomeIff, codes};
 ghost use Rattle.std.specs.Str.{bytes_eq};
 ghost use Rattle.text.specs.Numbers.{Inverse, decimal_of, digit_value, hex_of, index_of, number_of};
 
-fn digit_value(b: u8) -> u8
-    ensures { result ≡ digit_value b }
+fn digit_in(base: u32, b: u8) -> Option<u32>
+    requires { base ≤ 16 }
+    ensures { SomeIff result (digit_value b < base) (digit_value b) }
 {
-    match b {
+    let value = match b {
         b'0'..=b'9' => b - b'0',
         b'A'..=b'F' => b - b'A' + 10,
-        _ => 16,
-    }
+        _ => return None,
+    };
+    let value = u32::from(value);
+    (value < base).then_some(value)
 }
 
-fn number(base: u8, t: &[u8]) -> Option<u32>
+// Not std's `from_str_radix`: it also takes a sign and lower-case digits.
+fn number(base: u32, t: &[u8]) -> Option<u32>
     requires { (base ≤ 16) × (length t.now ≤ 5) }
     ensures value { result ≡ number_of base t.now }
     ensures below { IfSome result (λ n. n < base ^ length t.now) }
 {
     let mut n = 0;
     for b in t {
-        let digit = digit_value(*b);
-        if digit >= base {
-            return None;
-        }
-        n = n * base as u32 + digit as u32;
+        let digit = digit_in(base, *b)?;
+        n = n * base + digit;
     }
     Some(n)
 }
 
+// The first clause of `read_decimal`, from which its second follows.
 fn decimal(t: &[u8]) -> Option<u32>
     ensures { result ≡ decimal_of t.now }
 {
-    if t.len() == 0 || t.len() > 5 {
-        return None;
+    match t {
+        [] | [b'0', _, ..] => None,
+        _ if t.len() > 5 => None,
+        _ => number(10, t),
     }
-    if t[0] == b'0' && t.len() > 1 {
-        return None;
-    }
-    number(10, t)
 }
 
-/// One to five decimal digits without leading zeros.
+/// One to five decimal digits without leading zeros; none for any other text.
 pub fn read_decimal(t: &[u8]) -> Option<u32>
     ensures value { result ≡ decimal_of t.now }
     ensures inverse { Inverse t.now result }
@@ -49,43 +49,37 @@ pub fn read_decimal(t: &[u8]) -> Option<u32>
     decimal(t)
 }
 
-fn is_minus_one(t: &[u8]) -> bool
-    ensures { result ≡ bytes_eq t.now (codes "-1") }
-{
-    t == b"-1".as_slice()
-}
-
-/// The same, or `-1`.
+/// The same, or `-1`; none for any other text.
 pub fn read_index(t: &[u8]) -> Option<i32>
     ensures { result ≡ index_of t.now }
 {
-    if is_minus_one(t) {
+    if t == b"-1".as_slice() {
         return Some(-1);
     }
-    match read_decimal(t) {
-        Some(n) => Some(n as i32),
-        None => None,
-    }
+    i32::try_from(read_decimal(t)?).ok()
 }
 
-/// Two upper-case hexadecimal digits.
+fn hex(digits: usize, t: &[u8]) -> Option<u32>
+    requires { digits ≤ 5 }
+    ensures value { result ≡ hex_of digits t.now }
+    ensures below { IfSome result (λ n. n < 16 ^ digits) }
+{
+    if t.len() != digits {
+        return None;
+    }
+    number(16, t)
+}
+
+/// Two upper-case hexadecimal digits; none for any other text.
 pub fn read_hex2(t: &[u8]) -> Option<u8>
     ensures { result ≡ hex_of 2 t.now }
 {
-    if t.len() != 2 {
-        return None;
-    }
-    let n = number(16, t)?;
-    Some(n as u8)
+    u8::try_from(hex(2, t)?).ok()
 }
 
-/// Four upper-case hexadecimal digits.
+/// Four upper-case hexadecimal digits; none for any other text.
 pub fn read_hex4(t: &[u8]) -> Option<u16>
     ensures { result ≡ hex_of 4 t.now }
 {
-    if t.len() != 4 {
-        return None;
-    }
-    let n = number(16, t)?;
-    Some(n as u16)
+    u16::try_from(hex(4, t)?).ok()
 }
