@@ -1,7 +1,8 @@
 -- Lines of bounded length: literals by computation, and the texts that are put together from them. Assumes nothing.
-use Rattle.std.proofs.Common.{◌≡◌, ℕ, ◌+◌, ◌*◌, ◌%◌, ◌^◌, ◌<◌, ◌≤◌, Bool, true, false, cond, not, eqb, List, [], ◌∷◌, ◌++◌, length, refl, arith, length-append}
+use Rattle.std.proofs.Common.{◌≡◌, ℕ, ◌+◌, ◌*◌, ◌%◌, ◌^◌, ◌<◌, ◌≤◌, Bool, true, false, cond, not, eqb, List, [], ◌∷◌, ◌++◌, length, refl, ◌∙◌, arith, length-append}
 use lib.ListN.{length-map}
-use Rattle.std.specs.List.{flat_map}
+use Rattle.std.specs.List.{flat_map, list_all}
+use Rattle.std.proofs.lemmas.List.Folds.{list_all-append, list_all-map}
 use Rattle.std.proofs.lemmas.Fmt.{decimal_by_steps, length-decimal-le}
 use Rattle.std.proofs.lemmas.Bool.{and_parts, leb-true}
 use Rattle.std.proofs.lemmas.Bool.Decides.{nat_tests}
@@ -9,18 +10,12 @@ use Rattle.text.specs.Sized.{Line, is_line, unbroken}
 use Rattle.text.specs.Texts.{decimal_text, hex_text, upper_byte, upper_text, when}
 
 unbroken-append : (s t : List ℕ) → unbroken s ≡ true → unbroken t ≡ true → unbroken (s ++ t) ≡ true
-unbroken-append [] t h k = k
-unbroken-append (b ∷ s) t h k =
-    let p = and_parts (not (eqb b 10)) (unbroken s) h in
-    let more = unbroken-append s t p.1 k in
-    grind (arith, nat_tests)
+unbroken-append s t h k = let parts = list_all-append (λ b. not (eqb b 10)) s t in grind (arith, nat_tests)
 
 unbroken-upper_text : (t : List ℕ) → unbroken t ≡ true → unbroken (upper_text t) ≡ true
-unbroken-upper_text [] h = refl
-unbroken-upper_text (b ∷ t) h =
-    let p = and_parts (not (eqb b 10)) (unbroken t) h in
-    let more = unbroken-upper_text t p.1 in
-    grind (arith, nat_tests)
+unbroken-upper_text t h =
+    let same : (b : ℕ) → not (eqb (upper_byte b) 10) ≡ not (eqb b 10) = λ b. grind (arith, nat_tests) in
+    list_all-map (λ b. not (eqb b 10)) upper_byte t ∙ (λ i. list_all (λ b. same b i) t) ∙ h
 
 -- a literal: `Line_lit 3 (codes "abc") refl`
 pub Line_lit : (n : ℕ) (t : List ℕ) → is_line n t ≡ true → Line n t

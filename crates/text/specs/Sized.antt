@@ -1,10 +1,10 @@
 -- Texts that are one line of bounded length. Assumes nothing.
-use Rattle.std.specs.Prelude.{◌≡◌, ℕ, ◌≤◌, Bool, true, not, ◌&&◌, List, [], ◌∷◌, length, ◌==◌, nat_le}
+use Rattle.std.specs.Prelude.{◌≡◌, ℕ, ◌≤◌, Bool, true, not, ◌&&◌, List, length, ◌==◌, nat_le}
+use Rattle.std.specs.List.{list_all}
 
 -- no byte ends a line
 abbrev pub unbroken : List ℕ → Bool
-unbroken [] = true
-unbroken (b ∷ t) = not (b == 10) && unbroken t
+unbroken t = list_all (λ b. not (b == 10)) t
 
 -- t has at most n bytes, and none of them ends a line
 pub record Line (n : ℕ) (t : List ℕ) : Type 0 where

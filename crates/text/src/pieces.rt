@@ -16,35 +16,36 @@ pub trait Piece: Drop {
 }
 
 /// A text, as it stands.
-#[derive(Clone, Copy)]
+#[derive(Clone, Copy, Debug, PartialEq, Eq)]
 pub struct Text<'a>(pub &'a [u8]);
 
 /// A byte, as it stands.
-#[derive(Clone, Copy)]
+#[derive(Clone, Copy, Debug, PartialEq, Eq)]
 pub struct Byte(pub u8);
 
 /// A byte as two upper-case hexadecimal digits.
-#[derive(Clone, Copy)]
+#[derive(Clone, Copy, Debug, PartialEq, Eq)]
 pub struct Hex(pub u8);
 
 /// A number in its shortest decimal spelling.
-#[derive(Clone, Copy)]
+#[derive(Clone, Copy, Debug, PartialEq, Eq)]
 pub struct Decimal(pub u32);
 
 /// A text in upper case.
-#[derive(Clone, Copy)]
+#[derive(Clone, Copy, Debug, PartialEq, Eq)]
 pub struct Upper<'a>(pub &'a [u8]);
 
 /// The piece where the flag is set, else nothing.
-#[derive(Drop)]
+// Beside `Option<P>`: a flag is a rule of the notation, and a printer's pieces read in the order of the text.
+#[derive(Debug, PartialEq, Eq, Drop)]
 pub struct When<P>(pub bool, pub P);
 
 /// The pieces of a slice, one after another.
-#[derive(Drop)]
+#[derive(Debug, PartialEq, Eq, Drop)]
 pub struct Each<'a, P>(pub &'a [P]);
 
 /// The first piece and then the second.
-#[derive(Drop)]
+#[derive(Debug, PartialEq, Eq, Drop)]
 pub struct Both<A, B>(pub A, pub B);
 
 /// Pieces, one after another.
@@ -98,8 +99,8 @@ impl<P: Piece> Piece for When<P> {
     ghost spelled = { λ x. when x.0 (P.Piece.spelled x.1) };
 
     fn print(self, w: &mut Writer) -> Result<(), WriteFault> {
-        let When(yes, p) = self;
-        if yes { p.print(w) } else { w.text(b"") }
+        let When(flag, piece) = self;
+        flag.then_some(piece).print(w)
     }
 }
 
@@ -107,10 +108,11 @@ impl<P: Piece> Piece for When<P> {
 impl<P: Piece> Piece for Option<P> {
     ghost spelled = { λ x. option_map_or P.Piece.spelled x [] };
 
+    #[tactic(auto, using(crate::proofs::Writes::nothing_as))]
     fn print(self, w: &mut Writer) -> Result<(), WriteFault> {
         match self {
-            Some(p) => p.print(w),
-            None => w.text(b""),
+            Some(piece) => piece.print(w),
+            None => Ok(()),
         }
     }
 }
@@ -118,8 +120,8 @@ impl<P: Piece> Piece for Option<P> {
 fn print_each<P: Piece + Copy>(w: &mut Writer, items: &[P]) -> Result<(), WriteFault>
     ensures { Wrote w.old (flat_map P.Piece.spelled items.now) w.new result }
 {
-    for p in items {
-        (*p).print(w)?;
+    for piece in items {
+        piece.print(w)?;
     }
     Ok(())
 }
