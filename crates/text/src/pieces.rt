@@ -44,15 +44,11 @@ pub struct When<P>(pub bool, pub P);
 #[derive(Debug, PartialEq, Eq, Drop)]
 pub struct Each<'a, P>(pub &'a [P]);
 
-/// The first piece and then the second.
-#[derive(Debug, PartialEq, Eq, Drop)]
-pub struct Both<A, B>(pub A, pub B);
-
 /// Pieces, one after another.
 #[macro_export]
 macro_rules! pieces {
     ($a:expr) => { $a };
-    ($a:expr, $($rest:expr),+) => { $crate::pieces::Both($a, $crate::pieces!($($rest),+)) };
+    ($a:expr, $($rest:expr),+) => { ($a, $crate::pieces!($($rest),+)) };
 }
 
 impl Piece for Text<'_> {
@@ -141,11 +137,12 @@ impl<P: Piece + Copy> Piece for Each<'_, P> {
     }
 }
 
-impl<A: Piece, B: Piece> Piece for Both<A, B> {
+/// The first piece and then the second.
+impl<A: Piece, B: Piece> Piece for (A, B) {
     ghost spelled = { λ x. A.Piece.spelled x.0 ++ B.Piece.spelled x.1 };
 
     fn print(self, w: &mut Writer) -> Result<(), WriteFault> {
-        let Both(a, b) = self;
+        let (a, b) = self;
         print_both(w, a, b)
     }
 }
