@@ -1,11 +1,11 @@
-// Writing into lent bytes that are just enough, one too few, or none.
+// Writing into lent bytes that are just enough, one too few, or none, and pieces put together.
 
 #[cfg(test)]
 mod tests {
     use std::fmt::Debug;
     use std::test::Fail;
     use text::pieces;
-    use text::pieces::{Decimal, Hex, Piece, Text, Upper};
+    use text::pieces::{Byte, Decimal, Each, Hex, Piece, Text, Upper, When};
     use text::render::render;
     use text::writer::WriteFault;
 
@@ -19,7 +19,7 @@ mod tests {
             ),
             Ok(9)
         );
-        assert!(rt; &out[0..9] == b"abAFX_910".as_slice());
+        assert_eq!(rt; out, *b"abAFX_910");
         Ok(())
     }
 
@@ -33,7 +33,7 @@ mod tests {
             ),
             Err(WriteFault { at: 8 })
         );
-        assert!(rt; &out[0..8] == b"abAFX_91".as_slice());
+        assert_eq!(rt; out, *b"abAFX_91");
         Ok(())
     }
 
@@ -41,7 +41,28 @@ mod tests {
     fn room_left(rt: HostRuntime) {
         let mut out = [b'.'; 5];
         assert_eq!(rt; render(&mut out, Decimal(0)), Ok(1));
-        assert!(rt; &out[0..5] == b"0....".as_slice());
+        assert_eq!(rt; out, *b"0....");
+    }
+
+    #[test]
+    fn repeated_and_absent(rt: HostRuntime) {
+        let mut out = [b'.'; 9];
+        assert_eq!(rt;
+            render(
+                &mut out,
+                pieces!(
+                    Byte(b'<'),
+                    Each(&[Hex(0x1F), Hex(0x20)]),
+                    Some(Byte(b'+')),
+                    None::<Byte>,
+                    When(true, Text(b"y")),
+                    When(false, Text(b"n")),
+                    Byte(b'>'),
+                ),
+            ),
+            Ok(8)
+        );
+        assert_eq!(rt; out, *b"<1F20+y>.");
     }
 
     #[test]

@@ -47,8 +47,8 @@ pub struct Each<'a, P>(pub &'a [P]);
 /// Pieces, one after another.
 #[macro_export]
 macro_rules! pieces {
-    ($a:expr) => { $a };
-    ($a:expr, $($rest:expr),+) => { ($a, $crate::pieces!($($rest),+)) };
+    ($a:expr $(,)?) => { $a };
+    ($a:expr, $($rest:expr),+ $(,)?) => { ($a, $crate::pieces!($($rest),+)) };
 }
 
 impl Piece for Text<'_> {
