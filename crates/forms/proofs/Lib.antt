@@ -1,3 +1,4 @@
 pub mod Finds
+pub mod Meanings
 pub mod Passing
 pub mod PassingNames

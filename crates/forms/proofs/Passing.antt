@@ -18,7 +18,7 @@ none_both None b h = (refl, h)
 four : (a b c d : Bool) (v w x y : RowFault) → cond a (Some v) (cond b (Some w) (cond c (Some x) (cond d (Some y) None))) ≡ None → (a ≡ false) × (b ≡ false) × (c ≡ false)
 four a b c d v w x y h = grind (arith, nat_tests)
 
-five : (a b c d e : Bool) (u v w x y : RowFault) → cond a (Some u) (cond b (Some v) (cond c (Some w) (cond d (Some x) (cond e (Some y) None)))) ≡ None → (c ≡ false) × (d ≡ false)
+five : (a b c d e : Bool) (u v w x y : RowFault) → cond a (Some u) (cond b (Some v) (cond c (Some w) (cond d (Some x) (cond e (Some y) None)))) ≡ None → (a ≡ false) × (c ≡ false) × (d ≡ false)
 five a b c d e u v w x y h = grind (arith, nat_tests)
 
 or_false : (a b : Bool) → (a || b) ≡ false → (a ≡ false) × (b ≡ false)
@@ -32,8 +32,9 @@ in_sets r e =
     let codes : codes_outside r ≡ false = first.0 in
     let not_mvex : eqb r.encoding 5 ≡ false = first.1 in
     let operands : operands_wrong (kinds_of r.kinds) r.count ≡ false = first.2 in
-    let indices : (index_outside r.group || index_outside r.rm) ≡ false = second.0 in
-    let long : length_wrong r ≡ false = second.1 in
+    let sizes : (no_size r.address || no_size r.operand) ≡ false = second.0 in
+    let indices : (index_outside r.group || index_outside r.rm) ≡ false = second.1 in
+    let long : length_wrong r ≡ false = second.2 in
     record {
       encoding = grind (arith, nat_tests);
       table = grind (arith, nat_tests);
@@ -41,6 +42,8 @@ in_sets r e =
       lkind = grind (arith, nat_tests);
       length = grind (arith, nat_tests);
       tag = grind (arith, nat_tests);
+      address = (or_false (no_size r.address) (no_size r.operand) sizes).0;
+      operand = (or_false (no_size r.address) (no_size r.operand) sizes).1;
       group = (or_false (index_outside r.group) (index_outside r.rm) indices).0;
       rm = (or_false (index_outside r.group) (index_outside r.rm) indices).1;
       count = grind (arith, nat_tests);

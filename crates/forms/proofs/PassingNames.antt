@@ -1,29 +1,29 @@
 -- What is known of a naming's row that passes. Assumes nothing.
-use Rattle.std.proofs.Common.{◌≡◌, ℕ, ◌≤◌, Bool, false, cond, ◌||◌, ltb, List, length, Some, None, ◌∙◌, arith}
+use Rattle.std.proofs.Common.{◌≡◌, ℕ, zero, suc, ◌≤◌, Bool, true, false, cond, ◌||◌, List, [], ◌∷◌, length, Some, None, Ok, Err, Result, refl, sym, ap, ◌∙◌, arith}
 use Rattle.std.proofs.lemmas.Bool.Decides.{nat_tests}
-use Rattle.forms.specs.Checks.{mnemonic_wrong, memory_outside, naming_fault}
-use Rattle.forms.specs.Names.{memory_of, NamePasses}
+use Rattle.std.proofs.lemmas.Str.{IsUtf8-from_ascii}
+use Rattle.std.specs.Prelude.{if◌then◌else◌, nat_lt, IsUtf8, IsAscii}
+use Rattle.std.specs.Result.{is_err}
+use Rattle.forms.specs.Checks.{mnemonic_wrong, all_in_set, memory_outside}
+use Rattle.forms.specs.Forms.{answered, decoded}
+use Rattle.forms.specs.Names.{Name, NamePasses, options, option_of, memory_of, memories_from, name_of, named}
+use Rattle.forms.specs.declared.codes.NamingOption.{NamingOption}
 use Rattle.forms.specs.declared.fault.RowFault.{RowFault}
 use Rattle.forms.specs.declared.form.Memory.{Memory}
 use Rattle.forms.specs.declared.row.NamingRow.{NamingRow}
+use Rattle.forms.proofs.Meanings.{past_last, within}
 
-two : (a b : Bool) (v w : RowFault) → cond a (Some v) (cond b (Some w) None) ≡ None → (a ≡ false) × (b ≡ false)
-two a b v w h = grind (arith, nat_tests)
+ascii : (t : List ℕ) → all_in_set t ≡ true → IsAscii t
+ascii [] h i = omega arith
+ascii (b ∷ bs) h zero = grind (arith, nat_tests)
+ascii (b ∷ bs) h (suc i) = ascii bs (grind (arith, nat_tests)) i
 
-module _ (r : NamingRow) (e : naming_fault r ≡ None) where
-  right : mnemonic_wrong r.mnemonic.now ≡ false
-  right = (two (mnemonic_wrong r.mnemonic.now) (ltb 6 r.option || (memory_outside r.memory || memory_outside r.broadcast)) _ _ e).0
+-- a mnemonic that passes is text
+pub mnemonic_text : (t : List ℕ) → mnemonic_wrong t ≡ false → IsUtf8 t
+mnemonic_text t h = IsUtf8-from_ascii t (ascii t (grind (arith, nat_tests)))
 
-  inside : (ltb 6 r.option || (memory_outside r.memory || memory_outside r.broadcast)) ≡ false
-  inside = (two (mnemonic_wrong r.mnemonic.now) (ltb 6 r.option || (memory_outside r.memory || memory_outside r.broadcast)) _ _ e).1
-
-  pub short_name : length r.mnemonic.now ≤ 32
-  short_name = let h = right in grind (arith, nat_tests)
-
-  pub name_passes : {t : List ℕ} {m b : Memory} → t ≡ r.mnemonic.now → m ≡ memory_of r.memory → b ≡ memory_of r.broadcast → NamePasses t m b
-  name_passes p q s =
-      let passes : NamePasses r.mnemonic.now (memory_of r.memory) (memory_of r.broadcast) = let h = right in let k = inside in grind (arith, nat_tests) in
-      (λ i. mnemonic_wrong (p i) || (ltb 512 (q i).size || ltb 512 (s i).size)) ∙ passes
+pub mnemonic_short : (t : List ℕ) → mnemonic_wrong t ≡ false → length t ≤ 32
+mnemonic_short t h = grind (arith, nat_tests)
 
 -- what a naming that has passed says of its mnemonic and its memories
 module _ (t : List ℕ) (m b : Memory) (p : NamePasses t m b) where
@@ -35,3 +35,27 @@ module _ (t : List ℕ) (m b : Memory) (p : NamePasses t m b) where
 
   pub small_broadcast : b.size ≤ 512
   small_broadcast = grind (arith, nat_tests)
+
+no_fault : (a b c : Bool) (v w : RowFault) (x : Name) → a ≡ false → b ≡ false → c ≡ false → answered (cond a (Some v) (cond (b || c) (Some w) None)) x ≡ Ok x
+no_fault a b c v w x p q r = rw (p, q, r) refl
+
+option_passes : (n : ℕ) (o : NamingOption) → Ok o ≡ decoded options RowFault.NamingCode n → (nat_lt 6 n ≡ false) × (o ≡ option_of n)
+option_passes n o e =
+    let known : nat_lt 6 n ≡ false = sym (past_last options RowFault.NamingCode n 6 refl) ∙ sym (ap is_err e) in
+    let stands = within options RowFault.NamingCode n NamingOption.Plain (grind (arith, nat_tests)) in
+    (known, cc)
+
+both_pass : (outside : Bool) (x m : Memory × Memory) (v : RowFault) → ◌≡◌ {A = Result (Memory × Memory) RowFault} (Ok m) (if outside then Err v else Ok x)
+    → (outside ≡ false) × (m ≡ x)
+both_pass true x m v e = let z : ◌≡◌ {A = ℕ} 0 1 = cc in absurd (omega arith)
+both_pass false x m v e = (refl, cc)
+
+-- the name of a row whose parts all pass
+pub whole : (r : NamingRow) (t : List ℕ) (o : NamingOption) (m : Memory × Memory) → t ≡ r.mnemonic.now → mnemonic_wrong r.mnemonic.now ≡ false
+    → Ok o ≡ decoded options RowFault.NamingCode r.option → Ok m ≡ memories_from r
+    → ◌≡◌ {A = Result Name RowFault} (Ok (record { mnemonic = t; option = o; memory = m.0; broadcast = m.1 })) (named r)
+whole r t o m same right known held =
+    let option = option_passes r.option o known in
+    let memories = both_pass (memory_outside r.memory || memory_outside r.broadcast) (memory_of r.memory, memory_of r.broadcast) m RowFault.NamingCode held in
+    let none = no_fault (mnemonic_wrong r.mnemonic.now) (nat_lt 6 r.option) (memory_outside r.memory || memory_outside r.broadcast) RowFault.Mnemonic RowFault.NamingCode (name_of r) right option.0 memories.0 in
+    (λ i. Ok (record { mnemonic = same i; option = option.1 i; memory = (memories.1 i).0; broadcast = (memories.1 i).1 })) ∙ sym none

@@ -1,9 +1,10 @@
 -- The checks of rows, in the order of their numbers. Assumes nothing.
-use Rattle.std.specs.Prelude.{ℕ, ◌/◌, ◌%◌, Bool, true, cond, not, ◌&&◌, ◌||◌, List, [], ◌∷◌, length, take, drop, ℤ, pos, negsuc, Some, None, Option, ◌==◌, nat_le, nat_lt, slice_index}
+use Rattle.std.specs.Prelude.{ℕ, ◌/◌, ◌%◌, Bool, cond, not, ◌&&◌, ◌||◌, List, length, take, drop, ℤ, pos, negsuc, Some, None, Option, ◌==◌, nat_le, nat_lt, slice_index}
+use Rattle.std.specs.List.{list_all, list_any}
+use Rattle.kinds.specs.Kinds.{is_absent, is_seg_rdi}
 use Rattle.kinds.specs.declared.kind.OperandKind.{OperandKind}
-use Rattle.forms.specs.Operands.{has, kinds_of}
+use Rattle.forms.specs.Operands.{is_general_register_or_memory, kinds_of}
 use Rattle.forms.specs.declared.fault.RowFault.{RowFault}
-use Rattle.forms.specs.declared.operands.Sought.{Sought}
 use Rattle.forms.specs.declared.row.FormRow.{FormRow}
 use Rattle.forms.specs.declared.row.MemoryRow.{MemoryRow}
 use Rattle.forms.specs.declared.row.NamingRow.{NamingRow}
@@ -29,7 +30,7 @@ codes_outside r =
 
 -- 3: more than five operands, no kind among the counted, or a kind after them.
 abbrev pub operands_wrong : List OperandKind → ℕ → Bool
-operands_wrong ks count = nat_lt 5 count || (has Sought.Missing (take count ks) || has Sought.Present (drop count ks))
+operands_wrong ks count = nat_lt 5 count || (list_any is_absent (take count ks) || list_any (λ k. not (is_absent k)) (drop count ks))
 
 -- 5: a size that is none of 0, 16, 32, 64.
 abbrev pub no_size : ℕ → Bool
@@ -54,7 +55,7 @@ length_wrong r =
 
 -- 9: broadcast beside an r8, r16, r32 or r64 that may be memory.
 abbrev pub broadcast_wrong : List OperandKind → ℕ → Bool
-broadcast_wrong ks flags = bit 32 flags && has Sought.GprMem ks
+broadcast_wrong ks flags = bit 32 flags && list_any is_general_register_or_memory ks
 
 -- Checks 1 to 4 of a row with these kinds.
 abbrev pub operands_fault : FormRow → List OperandKind → Option RowFault
@@ -62,7 +63,7 @@ operands_fault r ks =
     cond (codes_outside r) (Some RowFault.CodeOutside)
     (cond (r.encoding == 5) (Some RowFault.Mvex)
     (cond (operands_wrong ks r.count) (Some RowFault.OperandCount)
-    (cond (has Sought.SegRdi (drop 1 ks)) (Some RowFault.SegRdiPlace) None)))
+    (cond (list_any is_seg_rdi (drop 1 ks)) (Some RowFault.SegRdiPlace) None)))
 
 -- Checks 5 to 9.
 abbrev pub numbers_fault : FormRow → List OperandKind → Option RowFault
@@ -87,8 +88,7 @@ abbrev pub in_set : ℕ → Bool
 in_set b = (nat_le 65 b && nat_le b 90) || ((nat_le 97 b && nat_le b 122) || ((nat_le 48 b && nat_le b 57) || b == 95))
 
 abbrev pub all_in_set : List ℕ → Bool
-all_in_set [] = true
-all_in_set (b ∷ bs) = in_set b && all_in_set bs
+all_in_set = list_all in_set
 
 -- 10: empty, over 32 bytes, or with another byte.
 abbrev pub mnemonic_wrong : List ℕ → Bool

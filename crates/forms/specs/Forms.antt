@@ -1,7 +1,8 @@
 -- What a row says, in types: each code by the list of what the codes of its set stand for. Assumes nothing.
-use Rattle.std.specs.Prelude.{◌≡◌, ℕ, ◌<◌, false, cond, List, [], ◌∷◌, get_or, take, ℤ, pos, negsuc, Some, None, Ok, Err, Option, Result, ◌==◌, slice_index_or}
+use Rattle.std.specs.Prelude.{◌≡◌, ℕ, ◌<◌, false, if◌then◌else◌, List, [], ◌∷◌, take, ℤ, pos, negsuc, Some, None, Ok, Err, Option, Result, ◌==◌, slice_get, slice_index_or}
+use Rattle.std.specs.Option.{ok_or}
 use Rattle.kinds.specs.declared.kind.OperandKind.{OperandKind}
-use Rattle.forms.specs.Checks.{bit, index_outside, form_fault}
+use Rattle.forms.specs.Checks.{bit, index_outside, no_size, form_fault}
 use Rattle.forms.specs.Operands.{kinds_of}
 use Rattle.forms.specs.declared.codes.Encoding.{Encoding}
 use Rattle.forms.specs.declared.codes.LengthKind.{LengthKind}
@@ -15,28 +16,26 @@ use Rattle.forms.specs.declared.form.Flags.{Flags}
 use Rattle.forms.specs.declared.form.Form.{Form}
 use Rattle.forms.specs.declared.row.FormRow.{FormRow}
 
-abbrev pub encoding_of : ℕ → Encoding
-encoding_of n = slice_index_or (Encoding.Legacy ∷ Encoding.Vex ∷ Encoding.Evex ∷ Encoding.Xop ∷ Encoding.D3now ∷ []) n Encoding.Legacy
+-- What the codes of each set stand for, from 0.
+abbrev pub encodings : List Encoding
+encodings = Encoding.Legacy ∷ Encoding.Vex ∷ Encoding.Evex ∷ Encoding.Xop ∷ Encoding.D3now ∷ []
 
-abbrev pub table_of : ℕ → Table
-table_of n =
-    get_or
-    (Table.Normal ∷ Table.T0f ∷ Table.T0f38 ∷ Table.T0f3a ∷ Table.Map5 ∷ Table.Map6 ∷ Table.Map8 ∷ Table.Map9 ∷ Table.Map10 ∷ [])
-    n Table.Normal
+abbrev pub tables : List Table
+tables =
+    Table.Normal ∷ Table.T0f ∷ Table.T0f38 ∷ Table.T0f3a ∷ Table.Map5 ∷ Table.Map6 ∷ Table.Map8 ∷ Table.Map9 ∷ Table.Map10 ∷ []
 
-abbrev pub prefix_of : ℕ → Prefix
-prefix_of n = slice_index_or (Prefix.Absent ∷ Prefix.Pnp ∷ Prefix.P66 ∷ Prefix.Pf3 ∷ Prefix.Pf2 ∷ []) n Prefix.Absent
+abbrev pub prefixes : List Prefix
+prefixes = Prefix.Absent ∷ Prefix.Pnp ∷ Prefix.P66 ∷ Prefix.Pf3 ∷ Prefix.Pf2 ∷ []
 
-abbrev pub lkind_of : ℕ → LengthKind
-lkind_of n = slice_index_or (LengthKind.Absent ∷ LengthKind.L128 ∷ LengthKind.L0 ∷ LengthKind.Lz ∷ []) n LengthKind.Absent
+abbrev pub length_kinds : List LengthKind
+length_kinds = LengthKind.Absent ∷ LengthKind.L128 ∷ LengthKind.L0 ∷ LengthKind.Lz ∷ []
 
-abbrev pub length_of : ℕ → VectorLength
-length_of n = slice_index_or (VectorLength.V128 ∷ VectorLength.V256 ∷ VectorLength.V512 ∷ []) n VectorLength.V128
+abbrev pub lengths : List VectorLength
+lengths = VectorLength.V128 ∷ VectorLength.V256 ∷ VectorLength.V512 ∷ []
 
-abbrev pub tag_of : ℕ → Tag
-tag_of n =
-    get_or
-    (Tag.Plain
+abbrev pub tags : List Tag
+tags =
+    Tag.Plain
     ∷ Tag.Invalid
     ∷ Tag.DeclareByte
     ∷ Tag.DeclareWord
@@ -53,12 +52,40 @@ tag_of n =
     ∷ Tag.ImpliedXmm0To2And4To6
     ∷ Tag.ImpliedXmm0To6
     ∷ Tag.ImpliedEax
-    ∷ [])
-    n Tag.Plain
+    ∷ []
+
+abbrev pub encoding_of : ℕ → Encoding
+encoding_of n = slice_index_or encodings n Encoding.Legacy
+
+abbrev pub table_of : ℕ → Table
+table_of n = slice_index_or tables n Table.Normal
+
+abbrev pub prefix_of : ℕ → Prefix
+prefix_of n = slice_index_or prefixes n Prefix.Absent
+
+abbrev pub lkind_of : ℕ → LengthKind
+lkind_of n = slice_index_or length_kinds n LengthKind.Absent
+
+abbrev pub length_of : ℕ → VectorLength
+length_of n = slice_index_or lengths n VectorLength.V128
+
+abbrev pub tag_of : ℕ → Tag
+tag_of n = slice_index_or tags n Tag.Plain
 
 -- A size in bits; 0 is no size.
 abbrev pub size_of : ℕ → Size
-size_of bits = cond (bits == 16) Size.S16 (cond (bits == 32) Size.S32 (cond (bits == 64) Size.S64 Size.Absent))
+size_of bits = if bits == 16 then Size.S16 else (if bits == 32 then Size.S32 else (if bits == 64 then Size.S64 else Size.Absent))
+
+-- What a code of a set stands for, or the refusal of a code past its last.
+abbrev pub decoded : {X : Type 0} → List X → RowFault → ℕ → Result X RowFault
+decoded meanings fault code = ok_or (slice_get meanings code) fault
+
+-- The code after the last encoding is that of MVEX.
+abbrev pub encoding_from : ℕ → Result Encoding RowFault
+encoding_from code = if code == 5 then Err RowFault.Mvex else decoded encodings RowFault.CodeOutside code
+
+abbrev pub size_from : ℕ → Result Size RowFault
+size_from bits = if no_size bits then Err RowFault.FixedSize else Ok (size_of bits)
 
 -- A group or rm index; -1 is none.
 abbrev pub index_of : ℤ → Option ℕ
@@ -110,7 +137,7 @@ answered None x = Ok x
 abbrev pub described : FormRow → Result Form RowFault
 described r = answered (form_fault r) (typed r)
 
--- The codes that a form is made of are in their sets.
+-- The codes and sizes that a form is made of are in their sets.
 pub record InSets (r : FormRow) : Type 0 where
   pub encoding : r.encoding < 5
   pub table : r.table < 9
@@ -118,6 +145,8 @@ pub record InSets (r : FormRow) : Type 0 where
   pub lkind : r.lkind < 4
   pub length : r.length < 3
   pub tag : r.tag < 17
+  pub address : no_size r.address ≡ false
+  pub operand : no_size r.operand ≡ false
   pub group : index_outside r.group ≡ false
   pub rm : index_outside r.rm ≡ false
   pub count : r.count < 6

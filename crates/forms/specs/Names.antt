@@ -1,6 +1,6 @@
 -- How a form is named, apart from how that is stored. Assumes nothing.
-use Rattle.std.specs.Prelude.{◌≡◌, ℕ, false, ◌||◌, List, [], ◌∷◌, Result, nat_lt, slice_index_or}
-use Rattle.forms.specs.Checks.{mnemonic_wrong, naming_fault}
+use Rattle.std.specs.Prelude.{◌≡◌, ℕ, false, if◌then◌else◌, ◌||◌, List, [], ◌∷◌, Ok, Err, Result, nat_lt, slice_index_or}
+use Rattle.forms.specs.Checks.{mnemonic_wrong, memory_outside, naming_fault}
 use Rattle.forms.specs.Forms.{answered}
 use Rattle.forms.specs.declared.codes.MemoryLabel.{MemoryLabel}
 use Rattle.forms.specs.declared.codes.NamingOption.{NamingOption}
@@ -15,23 +15,21 @@ pub record Name : Type 0 where
   pub memory : Memory
   pub broadcast : Memory
 
-abbrev pub option_of : ℕ → NamingOption
-option_of n =
-    slice_index_or
-    (NamingOption.Plain
+-- What the codes of each set stand for, from 0.
+abbrev pub options : List NamingOption
+options =
+    NamingOption.Plain
     ∷ NamingOption.OpMaskIsK1OrNoGprSuffix
     ∷ NamingOption.IncVecIndex
     ∷ NamingOption.NoVecIndex
     ∷ NamingOption.SwapVecIndex12
     ∷ NamingOption.SkipOp0
     ∷ NamingOption.VecIndexSameAsOpIndex
-    ∷ [])
-    n NamingOption.Plain
+    ∷ []
 
-abbrev pub label_of : ℕ → MemoryLabel
-label_of n =
-    slice_index_or
-    (MemoryLabel.Plain
+abbrev pub labels : List MemoryLabel
+labels =
+    MemoryLabel.Plain
     ∷ MemoryLabel.Int
     ∷ MemoryLabel.Float
     ∷ MemoryLabel.Bcd
@@ -48,11 +46,27 @@ label_of n =
     ∷ MemoryLabel.SegPtr64
     ∷ MemoryLabel.Fword6
     ∷ MemoryLabel.Fword10
-    ∷ [])
-    n MemoryLabel.Plain
+    ∷ []
+
+abbrev pub option_of : ℕ → NamingOption
+option_of n = slice_index_or options n NamingOption.Plain
+
+abbrev pub label_of : ℕ → MemoryLabel
+label_of n = slice_index_or labels n MemoryLabel.Plain
 
 abbrev pub memory_of : MemoryRow → Memory
 memory_of m = record { label = label_of m.label; size = m.size }
+
+-- A memory that passes check 11, or its refusal.
+abbrev pub memory_from : MemoryRow → Result Memory RowFault
+memory_from m = if memory_outside m then Err RowFault.NamingCode else Ok (memory_of m)
+
+-- The memory without broadcast and that with it, where both pass.
+abbrev pub memories_from : NamingRow → Result (Memory × Memory) RowFault
+memories_from r =
+    if memory_outside r.memory || memory_outside r.broadcast
+    then Err RowFault.NamingCode
+    else Ok (memory_of r.memory, memory_of r.broadcast)
 
 -- The name that a row stands for.
 abbrev pub name_of : NamingRow → Name

@@ -1,11 +1,10 @@
 -- The operand kinds of a row. Assumes nothing.
-use Rattle.std.specs.Prelude.{ℕ, Bool, false, not, ◌||◌, List, [], ◌∷◌, slice_index}
+use Rattle.std.specs.Prelude.{ℕ, Bool, List, [], ◌∷◌, slice_index}
+use Rattle.std.specs.List.{list_any}
 use Rattle.std.specs.Option.{unwrap_or}
 use Rattle.kinds.specs.Groups.{among}
-use Rattle.kinds.specs.Kinds.{kind_at, is_absent, is_seg_rdi}
+use Rattle.kinds.specs.Kinds.{kind_at}
 use Rattle.kinds.specs.declared.kind.OperandKind.{OperandKind}
-use Rattle.forms.specs.declared.operands.Sought.{Sought}
-use Rattle.forms.specs.declared.operands.Sought.TheVariants.{Missing, Present, SegRdi, GprMem}
 
 -- The kind with a number; a number that is no kind's stands for none.
 abbrev pub kind_of : ℕ → OperandKind
@@ -20,11 +19,9 @@ kinds_of codes =
     ∷ kind_of (slice_index codes 4)
     ∷ []
 
-abbrev pub is : Sought → OperandKind → Bool
-is Missing k = is_absent k
-is Present k = not (is_absent k)
-is SegRdi k = is_seg_rdi k
-is GprMem k =
+-- A register of 8, 16, 32 or 64 bits, or memory.
+abbrev pub is_general_register_or_memory : OperandKind → Bool
+is_general_register_or_memory k =
     among k
     (OperandKind.R8OrMem
     ∷ OperandKind.R16OrMem
@@ -36,9 +33,4 @@ is GprMem k =
 
 -- One of the elements passes.
 abbrev pub any : {X : Type 0} → (X → Bool) → List X → Bool
-any p [] = false
-any p (x ∷ xs) = p x || any p xs
-
--- One of the kinds is what is sought.
-abbrev pub has : Sought → List OperandKind → Bool
-has s ks = any (is s) ks
+any = list_any

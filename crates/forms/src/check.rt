@@ -1,43 +1,45 @@
 // The checks of rows, in the order of their numbers.
 ghost use Rattle.std.specs.Prelude.{◌≡◌};
-ghost use Rattle.forms.specs.Checks.{codes_outside, operands_wrong, no_size, opcode_wrong, index_outside, length_wrong, broadcast_wrong, operands_fault, numbers_fault, form_fault, mnemonic_wrong, in_set, all_in_set, memory_outside, naming_fault, pair_fault};
+ghost use Rattle.forms.specs.Checks.{codes_outside, operands_wrong, no_size, opcode_wrong, index_outside, length_wrong, broadcast_wrong, operands_fault, numbers_fault, form_fault, mnemonic_wrong, in_set, all_in_set, pair_fault};
 ghost use Rattle.forms.specs.Operands.{kinds_of};
 
+use crate::codes::{LengthKind, Prefix, Size, Table, Tag};
 use crate::fault::RowFault;
-use crate::operands::{Sought, has, kinds_of};
-use crate::row::{FormRow, MemoryRow, NamingRow};
+use crate::form::Flags;
+use crate::operands::{
+    any_absent, any_general_register_or_memory, any_present, any_unknown, kinds_of,
+    seg_rdi_misplaced,
+};
+use crate::row::{FormRow, NamingRow};
 use kinds::OperandKind;
 
+#[tactic(auto, using(crate::proofs::Meanings::table_outside, crate::proofs::Meanings::prefix_outside, crate::proofs::Meanings::length_kind_outside, crate::proofs::Meanings::tag_outside, crate::proofs::Meanings::any_of_five))]
 fn codes_outside(row: &FormRow) -> bool
     ensures { result ≡ codes_outside row.now }
 {
-    row.encoding > 5
-        || row.table > 8
-        || row.prefix > 4
-        || row.lkind > 3
-        || row.tag > 16
-        || row.flags > 2047
-        || row.kinds[0] > 108
-        || row.kinds[1] > 108
-        || row.kinds[2] > 108
-        || row.kinds[3] > 108
-        || row.kinds[4] > 108
+    if row.encoding > 5 || row.flags > 2047 {
+        return true;
+    }
+    let table = Table::try_from(row.table).is_err();
+    let prefix = Prefix::try_from(row.prefix).is_err();
+    let lkind = LengthKind::try_from(row.lkind).is_err();
+    let tag = Tag::try_from(row.tag).is_err();
+    table || prefix || lkind || tag || any_unknown(&row.kinds)
 }
 
 fn operands_wrong(kinds: &[OperandKind; 5], count: u32) -> bool
     ensures { result ≡ operands_wrong kinds.now count }
 {
-    if count > 5 {
-        return true;
+    match kinds.split_at_checked(count as usize) {
+        Some((counted, rest)) => any_absent(counted) || any_present(rest),
+        None => true,
     }
-    let (counted, rest) = kinds.split_at(count as usize);
-    has(counted, Sought::Missing) || has(rest, Sought::Present)
 }
 
 fn no_size(bits: u32) -> bool
     ensures { result ≡ no_size bits }
 {
-    bits != 0 && bits != 16 && bits != 32 && bits != 64
+    Size::try_from(bits).is_err()
 }
 
 fn opcode_wrong(opcode: u16, bytes: u32) -> bool
@@ -55,15 +57,15 @@ fn index_outside(index: i32) -> bool
 fn length_wrong(row: &FormRow) -> bool
     ensures { result ≡ length_wrong row.now }
 {
-    let lig = row.flags % 2 == 1;
     let vector = row.encoding >= 1 && row.encoding <= 3;
+    let lig = Flags::from(row.flags).lig;
     row.length > 2 || (vector && !lig && (row.lkind == 0 || (row.lkind == 3 && row.length != 0)))
 }
 
 fn broadcast_wrong(kinds: &[OperandKind; 5], flags: u16) -> bool
     ensures { result ≡ broadcast_wrong kinds.now flags }
 {
-    flags / 32 % 2 == 1 && has(kinds, Sought::GprMem)
+    Flags::from(flags).broadcast && any_general_register_or_memory(kinds)
 }
 
 // Checks 1 to 4.
@@ -79,8 +81,7 @@ fn operands_fault(row: &FormRow, kinds: &[OperandKind; 5]) -> Option<RowFault>
     if operands_wrong(kinds, row.count) {
         return Some(RowFault::OperandCount);
     }
-    let (_, later) = kinds.split_at(1);
-    if has(later, Sought::SegRdi) {
+    if seg_rdi_misplaced(kinds) {
         return Some(RowFault::SegRdiPlace);
     }
     None
@@ -121,53 +122,25 @@ impl FormRow {
 fn in_set(b: u8) -> bool
     ensures { result ≡ in_set b }
 {
-    (b >= b'A' && b <= b'Z') || (b >= b'a' && b <= b'z') || (b >= b'0' && b <= b'9') || b == b'_'
+    b.is_ascii_alphanumeric() || b == b'_'
 }
 
 fn all_in_set(text: &[u8]) -> bool
     ensures { result ≡ all_in_set text.now }
 {
-    for b in text {
-        if !in_set(*b) {
-            return false;
-        }
-    }
-    true
+    text.iter().all(|b| in_set(*b))
 }
 
-fn mnemonic_wrong(text: &[u8]) -> bool
+pub(crate) fn mnemonic_wrong(text: &[u8]) -> bool
     ensures { result ≡ mnemonic_wrong text.now }
 {
-    text.len() == 0 || text.len() > 32 || !all_in_set(text)
-}
-
-fn memory_outside(memory: MemoryRow) -> bool
-    ensures { result ≡ memory_outside memory }
-{
-    memory.label > 16 || memory.size > 512
-}
-
-impl NamingRow<'_> {
-    /// The first check that the row fails, of 10 and 11.
-    pub fn check(&self) -> Option<RowFault>
-        ensures { result ≡ naming_fault self.now }
-    {
-        if mnemonic_wrong(self.mnemonic) {
-            return Some(RowFault::Mnemonic);
-        }
-        if self.option > 6 || memory_outside(self.memory) || memory_outside(self.broadcast) {
-            return Some(RowFault::NamingCode);
-        }
-        None
-    }
+    text.is_empty() || text.len() > 32 || !all_in_set(text)
 }
 
 /// The first check that a form's row and its naming's fail: those of the form, 1 to 9, then those of the naming, 10 and 11.
+#[tactic(auto, unfolding(crate::specs::Checks::pair_fault))]
 pub fn check_pair(row: &FormRow, naming: &NamingRow) -> Option<RowFault>
     ensures { result ≡ pair_fault row.now naming.now }
 {
-    match row.check() {
-        Some(fault) => Some(fault),
-        None => naming.check(),
-    }
+    row.check().or(naming.check())
 }

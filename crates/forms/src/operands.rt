@@ -1,65 +1,76 @@
 // What the checks ask of a row's operand kinds.
-ghost use Rattle.std.specs.Prelude.{◌≡◌};
-ghost use Rattle.forms.specs.Operands.{is, has, kind_of, kinds_of};
+ghost use Rattle.std.specs.Prelude.{◌≡◌, not, drop, nat_lt};
+ghost use Rattle.std.specs.List.{list_any};
+ghost use Rattle.kinds.specs.Kinds.{is_absent, is_seg_rdi};
+ghost use Rattle.forms.specs.Operands.{is_general_register_or_memory, kind_of, kinds_of};
 
 use crate::row::FormRow;
 use kinds::OperandKind;
 
-// What is looked for among operand kinds: no operand, any operand, seg_rDI, or a general register that may be memory.
-#[derive(Clone, Copy, Debug, PartialEq, Eq)]
-pub(crate) enum Sought {
-    Missing,
-    Present,
-    SegRdi,
-    GprMem,
+pub(crate) fn any_absent(kinds: &[OperandKind]) -> bool
+    ensures { result ≡ list_any is_absent kinds.now }
+{
+    kinds.iter().any(|kind| kind.is_absent())
 }
 
-fn is(kind: OperandKind, sought: Sought) -> bool
-    ensures { result ≡ is sought kind }
+pub(crate) fn any_present(kinds: &[OperandKind]) -> bool
+    ensures { result ≡ list_any (λ kind. not (is_absent kind)) kinds.now }
 {
-    match sought {
-        Sought::Missing => kind.is_absent(),
-        Sought::Present => !kind.is_absent(),
-        Sought::SegRdi => kind.is_seg_rdi(),
-        Sought::GprMem => matches!(
-            kind,
-            OperandKind::R8OrMem
-                | OperandKind::R16OrMem
-                | OperandKind::R32OrMem
-                | OperandKind::R32OrMemMpx
-                | OperandKind::R64OrMem
-                | OperandKind::R64OrMemMpx
-        ),
-    }
+    kinds.iter().any(|kind| !kind.is_absent())
 }
 
-// Whether one of the kinds is what is sought.
-pub(crate) fn has(kinds: &[OperandKind], sought: Sought) -> bool
-    ensures { result ≡ has sought kinds.now }
+// Whether seg_rDI stands elsewhere than at operand 0.
+pub(crate) fn seg_rdi_misplaced(kinds: &[OperandKind]) -> bool
+    ensures { result ≡ list_any is_seg_rdi (drop 1 kinds.now) }
 {
-    for kind in kinds {
-        if is(*kind, sought) {
-            return true;
-        }
-    }
-    false
+    kinds.iter().skip(1).any(|kind| kind.is_seg_rdi())
+}
+
+fn is_general_register_or_memory(kind: OperandKind) -> bool
+    ensures { result ≡ is_general_register_or_memory kind }
+{
+    matches!(
+        kind,
+        OperandKind::R8OrMem
+            | OperandKind::R16OrMem
+            | OperandKind::R32OrMem
+            | OperandKind::R32OrMemMpx
+            | OperandKind::R64OrMem
+            | OperandKind::R64OrMemMpx
+    )
+}
+
+pub(crate) fn any_general_register_or_memory(kinds: &[OperandKind]) -> bool
+    ensures { result ≡ list_any is_general_register_or_memory kinds.now }
+{
+    kinds
+        .iter()
+        .any(|kind| is_general_register_or_memory(*kind))
+}
+
+#[tactic(auto, using(crate::proofs::Meanings::unknown_past))]
+fn is_unknown(code: u32) -> bool
+    ensures { result ≡ nat_lt 108 code }
+{
+    OperandKind::try_from(code).is_err()
+}
+
+// Whether a number is no kind's.
+pub(crate) fn any_unknown(codes: &[u32]) -> bool
+    ensures { result ≡ list_any (nat_lt 108) codes.now }
+{
+    codes.iter().any(|code| is_unknown(*code))
 }
 
 fn kind_of(code: u32) -> OperandKind
     ensures { result ≡ kind_of code }
 {
-    OperandKind::from_code(code).unwrap_or(OperandKind::Absent)
+    OperandKind::try_from(code).unwrap_or(OperandKind::Absent)
 }
 
 // The five kinds of a row; a number that is no kind's stands for none.
 pub(crate) fn kinds_of(row: &FormRow) -> [OperandKind; 5]
     ensures { result ≡ kinds_of row.now.kinds }
 {
-    [
-        kind_of(row.kinds[0]),
-        kind_of(row.kinds[1]),
-        kind_of(row.kinds[2]),
-        kind_of(row.kinds[3]),
-        kind_of(row.kinds[4]),
-    ]
+    row.kinds.map(kind_of)
 }

@@ -1,12 +1,13 @@
 -- A kind's number is its place among the kinds: each kind has one number, and each number below 109 one kind.
 -- Assumes nothing.
-use Rattle.std.proofs.Common.{◌≡◌, ℕ, ◌<◌, ◌≤◌, length, get_or, Some, None, sym, refl, ◌∙◌, inl, inr, zero-add, arith, rules}
+use Rattle.std.proofs.Common.{◌≡◌, ℕ, ◌<◌, ◌≤◌, List, map, length, get_or, Some, None, refl, sym, ap, ◌∙◌, zero-add, arith, rules}
 use Rattle.std.proofs.lemmas.List.FromFn.{get_or-range_with_len}
-use Rattle.std.proofs.lemmas.Option.{slice_get-get_or, slice_get_past}
-use Rattle.std.proofs.lemmas.Bool.Decides.{leb_tells}
+use Rattle.std.proofs.lemmas.Option.{slice_get-get_or, slice_get_past, slice_get_within}
 use Rattle.std.specs.List.{range_with_len}
 use Rattle.kinds.specs.declared.kind.OperandKind.{OperandKind}
+use Rattle.kinds.specs.declared.rows.Row.{Row}
 use Rattle.kinds.specs.Kinds.{kinds, kind_at, place_of}
+use Rattle.kinds.specs.Rows.{row_of}
 use Rattle.kinds.proofs.Rule.{lookup}
 
 pub length-kinds : length kinds ≡ 109
@@ -25,8 +26,8 @@ unfolding kind_at
 past_count n h = slice_get_past kinds n h
 
 pub in_count : (n : ℕ) (k : OperandKind) → kind_at n ≡ Some k → n < 109
-in_count n k e =
-    elim (leb_tells 109 n) [ inl h ↦ let gone = past_count n h.1 in let z : ◌≡◌ {A = ℕ} 0 1 = cc in absurd (omega arith) | inr h ↦ h.1 ]
+unfolding kind_at
+in_count n k e = slice_get_within kinds n k e
 
 pub is_place : (n : ℕ) (k : OperandKind) → kind_at n ≡ Some k → n ≡ place_of k
 is_place n k e =
@@ -37,3 +38,18 @@ one_number m n k p q = is_place m k p ∙ sym (is_place n k q)
 
 pub one_kind : (n : ℕ) (j k : OperandKind) → kind_at n ≡ Some j → kind_at n ≡ Some k → j ≡ k
 one_kind n j k p q = cc
+
+-- what the table has at a number is the kind with the number, and past its end there is none
+pub kind_read : (n : ℕ) (r : Row) (rows : List Row) → rows ≡ map row_of kinds → n < length rows → r ≡ get_or rows n r → kind_at n ≡ Some r.kind
+kind_read n r rows whole below here =
+    let size : length rows ≡ 109 = ap length whole in
+    let e = below_count n OperandKind.Absent (omega arith) in
+    let same = lookup row_of rows n (get_or kinds n OperandKind.Absent) r whole e in
+    e ∙ ap (λ (row : Row). Some row.kind) (sym (here ∙ same))
+
+pub none_past : (n : ℕ) (rows : List Row) → rows ≡ map row_of kinds → length rows ≤ n → kind_at n ≡ None
+none_past n rows whole past = let size : length rows ≡ 109 = ap length whole in past_count n (omega arith)
+
+-- a kind's row stands at its number
+pub row_at : (rows : List Row) (n : ℕ) (d : Row) (k : OperandKind) → rows ≡ map row_of kinds → n ≡ place_of k → get_or rows n d ≡ row_of k
+row_at rows n d k whole at = lookup row_of rows n k d whole (rw at (has_place k))

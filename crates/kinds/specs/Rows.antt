@@ -113,6 +113,7 @@ use Rattle.kinds.specs.declared.kind.OperandKind.TheVariants.{
   EsRdi,
   SegRbxAl,
 }
+use Rattle.kinds.specs.declared.rows.Row.{Row}
 use Rattle.kinds.specs.declared.table.Class.{Class}
 use Rattle.kinds.specs.declared.table.Suffix.{Suffix}
 use Rattle.kinds.specs.declared.table.Role.{Role}
@@ -238,6 +239,6 @@ suffix_of = grouped suffix_groups Suffix.Plain
 unfoldable pub role_of : OperandKind → Role
 role_of = grouped role_groups Role.Plain
 
--- the three of a kind, as a row of the table
-abbrev pub row_of : OperandKind → Class × Suffix × Role
-row_of k = (grouped class_groups Class.Missing k, grouped suffix_groups Suffix.Plain k, grouped role_groups Role.Plain k)
+-- a kind's row of the table
+abbrev pub row_of : OperandKind → Row
+row_of k = record { kind = k; class = class_of k; suffix = suffix_of k; role = role_of k }

@@ -1,6 +1,11 @@
 // The operand kinds, numbered from 0 in the order in which they stand here.
 ghost use Rattle.std.specs.Prelude.{◌≡◌, Some};
-ghost use Rattle.kinds.specs.Kinds.{kinds, kind_at, place_of};
+ghost use Rattle.std.specs.Option.{ok_or};
+ghost use Rattle.kinds.specs.Kinds.{kind_at, place_of};
+
+use crate::rows::rows;
+use std::error::Error;
+use std::fmt;
 
 /// How an operand is encoded and what it may be. Absent stands where there is no operand.
 #[derive(Clone, Copy, Debug, PartialEq, Eq)]
@@ -116,148 +121,46 @@ pub enum OperandKind {
     SegRbxAl,
 }
 
-static KINDS: [OperandKind; 109] = [
-    OperandKind::R32Reg,
-    OperandKind::R32RegMem,
-    OperandKind::R32Rm,
-    OperandKind::R32Opcode,
-    OperandKind::R32Vvvv,
-    OperandKind::R64Reg,
-    OperandKind::R64RegMem,
-    OperandKind::R64Rm,
-    OperandKind::R64Opcode,
-    OperandKind::R64Vvvv,
-    OperandKind::BndOrMemMpx,
-    OperandKind::BndReg,
-    OperandKind::Absent,
-    OperandKind::Farbr2x2,
-    OperandKind::Farbr4x2,
-    OperandKind::MemOffs,
-    OperandKind::Mem,
-    OperandKind::MemMpx,
-    OperandKind::MemMib,
-    OperandKind::MemVsib32x,
-    OperandKind::MemVsib64x,
-    OperandKind::MemVsib32y,
-    OperandKind::MemVsib64y,
-    OperandKind::MemVsib32z,
-    OperandKind::MemVsib64z,
-    OperandKind::R8OrMem,
-    OperandKind::R16OrMem,
-    OperandKind::R32OrMem,
-    OperandKind::R32OrMemMpx,
-    OperandKind::R64OrMem,
-    OperandKind::R64OrMemMpx,
-    OperandKind::MmOrMem,
-    OperandKind::XmmOrMem,
-    OperandKind::YmmOrMem,
-    OperandKind::ZmmOrMem,
-    OperandKind::KOrMem,
-    OperandKind::R8Reg,
-    OperandKind::R8Opcode,
-    OperandKind::R16Reg,
-    OperandKind::R16RegMem,
-    OperandKind::R16Rm,
-    OperandKind::R16Opcode,
-    OperandKind::SegReg,
-    OperandKind::KReg,
-    OperandKind::Kp1Reg,
-    OperandKind::KRm,
-    OperandKind::KVvvv,
-    OperandKind::MmReg,
-    OperandKind::MmRm,
-    OperandKind::XmmReg,
-    OperandKind::XmmRm,
-    OperandKind::XmmVvvv,
-    OperandKind::Xmmp3Vvvv,
-    OperandKind::XmmIs4,
-    OperandKind::XmmIs5,
-    OperandKind::YmmReg,
-    OperandKind::YmmRm,
-    OperandKind::YmmVvvv,
-    OperandKind::YmmIs4,
-    OperandKind::YmmIs5,
-    OperandKind::ZmmReg,
-    OperandKind::ZmmRm,
-    OperandKind::ZmmVvvv,
-    OperandKind::Zmmp3Vvvv,
-    OperandKind::CrReg,
-    OperandKind::DrReg,
-    OperandKind::TrReg,
-    OperandKind::Es,
-    OperandKind::Cs,
-    OperandKind::Ss,
-    OperandKind::Ds,
-    OperandKind::Fs,
-    OperandKind::Gs,
-    OperandKind::Al,
-    OperandKind::Cl,
-    OperandKind::Ax,
-    OperandKind::Dx,
-    OperandKind::Eax,
-    OperandKind::Rax,
-    OperandKind::St0,
-    OperandKind::StiOpcode,
-    OperandKind::Imm4M2z,
-    OperandKind::Imm8,
-    OperandKind::Imm8Const1,
-    OperandKind::Imm8sex16,
-    OperandKind::Imm8sex32,
-    OperandKind::Imm8sex64,
-    OperandKind::Imm16,
-    OperandKind::Imm32,
-    OperandKind::Imm32sex64,
-    OperandKind::Imm64,
-    OperandKind::SegRdi,
-    OperandKind::Br16x1,
-    OperandKind::Br32x1,
-    OperandKind::Br64x1,
-    OperandKind::Br16x2,
-    OperandKind::Br32x4,
-    OperandKind::Br64x4,
-    OperandKind::Xbegin2,
-    OperandKind::Xbegin4,
-    OperandKind::Brdisp2,
-    OperandKind::Brdisp4,
-    OperandKind::Sibmem,
-    OperandKind::TmmReg,
-    OperandKind::TmmRm,
-    OperandKind::TmmVvvv,
-    OperandKind::SegRsi,
-    OperandKind::EsRdi,
-    OperandKind::SegRbxAl,
-];
+/// A number that is no operand kind's.
+#[derive(Clone, Copy, Debug, PartialEq, Eq)]
+pub struct UnknownKind(pub u32);
 
 impl OperandKind {
-    // The kinds in the order of their numbers.
-    fn all() -> &'static [OperandKind; 109]
-        ensures { result.now ≡ kinds }
-    {
-        &KINDS
-    }
-
-    // The kind's place among all.
+    // The kind's place in the table.
     pub(crate) fn place(self) -> usize
         ensures { result ≡ place_of self }
     {
         self as usize
     }
+}
 
-    /// The kind's number.
-    pub fn code(self) -> u32
-        ensures { kind_at result ≡ Some self }
-    {
-        self.place() as u32
+impl From<OperandKind> for u32 {
+    ghost from_gives = { λ kind code. kind_at code ≡ Some kind };
+
+    #[tactic(auto, using(crate::proofs::Numbers::has_place))]
+    fn from(kind: OperandKind) -> u32 {
+        kind.place() as u32
     }
+}
 
-    /// The kind with this number, if one has it.
-    pub fn from_code(code: u32) -> Option<OperandKind>
-        ensures { result ≡ kind_at code }
-    {
-        if code < 109 {
-            Some(OperandKind::all()[code as usize])
-        } else {
-            None
+impl TryFrom<u32> for OperandKind {
+    type Error = UnknownKind;
+
+    ghost try_from_gives = { λ code r. r ≡ ok_or (kind_at code) (record { 0 = code }) };
+
+    #[tactic(auto, using(crate::proofs::Numbers::kind_read, crate::proofs::Numbers::none_past))]
+    fn try_from(code: u32) -> Result<OperandKind, UnknownKind> {
+        match rows().get(code as usize) {
+            Some(row) => Ok(row.kind),
+            None => Err(UnknownKind(code)),
         }
     }
 }
+
+impl fmt::Display for UnknownKind {
+    fn fmt<W: fmt::Write>(&self, f: &mut fmt::Formatter<W>) -> fmt::Result {
+        write!(f, "no operand kind has number {}", self.0)
+    }
+}
+
+impl Error for UnknownKind {}

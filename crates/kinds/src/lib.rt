@@ -5,8 +5,9 @@ mod counter;
 mod kind;
 mod named;
 mod role;
+mod rows;
 mod table;
 
 pub use counter::Counter;
-pub use kind::OperandKind;
+pub use kind::{OperandKind, UnknownKind};
 pub use table::{Bank, Class, Register, Role, Suffix, Width, Word};

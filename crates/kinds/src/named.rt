@@ -9,21 +9,21 @@ impl OperandKind {
     pub fn is_absent(self) -> bool
         ensures { result ≡ is_absent self }
     {
-        matches!(self, OperandKind::Absent)
+        self == OperandKind::Absent
     }
 
     /// The memory at rDI that a masked store implies.
     pub fn is_seg_rdi(self) -> bool
         ensures { result ≡ is_seg_rdi self }
     {
-        matches!(self, OperandKind::SegRdi)
+        self == OperandKind::SegRdi
     }
 
     /// A plain immediate byte.
     pub fn is_imm8(self) -> bool
         ensures { result ≡ is_imm8 self }
     {
-        matches!(self, OperandKind::Imm8)
+        self == OperandKind::Imm8
     }
 
     /// A mask or a pair of masks in the reg field: as operand 0 it has vectors numbered by their place.

@@ -23,7 +23,7 @@ impl Role {
     pub fn is_vsib(self) -> bool
         ensures { result ≡ is_vsib self }
     {
-        matches!(self, Role::Vsib)
+        self == Role::Vsib
     }
 
     /// The rm field of the ModRM byte is 4, which says that a SIB byte follows.
@@ -47,6 +47,6 @@ impl Role {
     pub fn is_sti(self) -> bool
         ensures { result ≡ is_sti self }
     {
-        matches!(self, Role::Sti)
+        self == Role::Sti
     }
 }

@@ -36,3 +36,13 @@ impl Description {
         &self.form.kinds[0..self.form.count as usize]
     }
 }
+
+impl TryFrom<&FormRow> for Description {
+    type Error = RowFault;
+
+    ghost try_from_gives = { λ row r. form_got r ≡ described row.now };
+
+    fn try_from(row: &FormRow) -> Result<Description, RowFault> {
+        Description::from_row(row)
+    }
+}

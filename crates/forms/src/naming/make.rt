@@ -1,62 +1,35 @@
 // How a naming is made, and what it hands out.
-ghost use Rattle.std.specs.Prelude.{◌≡◌, ◌<◌, ◌≤◌, length, take};
-ghost use Rattle.forms.specs.Names.{memory_of, named};
+ghost use Rattle.std.specs.Prelude.{◌≡◌, ◌≤◌, true, false, MatchResult};
+ghost use Rattle.forms.specs.Checks.{mnemonic_wrong, naming_fault};
+ghost use Rattle.forms.specs.Names.{memories_from, named};
 ghost use Rattle.forms.specs.Made.{name_in, name_got};
 
 use super::Naming;
-use crate::codes::{MemoryLabel, NamingOption};
+use crate::check::mnemonic_wrong;
+use crate::codes::NamingOption;
 use crate::fault::RowFault;
 use crate::form::Memory;
-use crate::row::{MemoryRow, NamingRow};
+use crate::row::NamingRow;
+use arrayvec::ArrayString;
+use std::str;
 
-static OPTIONS: [NamingOption; 7] = [
-    NamingOption::Plain,
-    NamingOption::OpMaskIsK1OrNoGprSuffix,
-    NamingOption::IncVecIndex,
-    NamingOption::NoVecIndex,
-    NamingOption::SwapVecIndex12,
-    NamingOption::SkipOp0,
-    NamingOption::VecIndexSameAsOpIndex,
-];
-
-static LABELS: [MemoryLabel; 17] = [
-    MemoryLabel::Plain,
-    MemoryLabel::Int,
-    MemoryLabel::Float,
-    MemoryLabel::Bcd,
-    MemoryLabel::Bound16,
-    MemoryLabel::Bound32,
-    MemoryLabel::FpuEnv14,
-    MemoryLabel::FpuEnv28,
-    MemoryLabel::FpuState94,
-    MemoryLabel::FpuState108,
-    MemoryLabel::Fxsave,
-    MemoryLabel::Xsave,
-    MemoryLabel::SegPtr16,
-    MemoryLabel::SegPtr32,
-    MemoryLabel::SegPtr64,
-    MemoryLabel::Fword6,
-    MemoryLabel::Fword10,
-];
-
-fn memory_of(row: MemoryRow) -> Memory
-    requires { row.label < 17 }
-    ensures { result ≡ memory_of row }
+// A mnemonic as text; check 10 lets only ASCII pass.
+#[tactic(auto, using(crate::proofs::PassingNames::mnemonic_text, crate::proofs::PassingNames::mnemonic_short))]
+fn text_of(mnemonic: &[u8]) -> ArrayString<32>
+    requires { mnemonic_wrong mnemonic.now ≡ false }
+    ensures { result.bytes ≡ mnemonic.now }
 {
-    Memory {
-        label: LABELS[row.label as usize],
-        size: row.size,
-    }
+    let text = str::from_utf8(mnemonic).unwrap();
+    ArrayString::from(text).unwrap()
 }
 
-// The bytes at the front of 32.
-fn padded(bytes: &[u8]) -> [u8; 32]
-    requires { length bytes.now ≤ 32 }
-    ensures { take (length bytes.now) result ≡ bytes.now }
+// The memory without broadcast, and that with it.
+fn memories(row: &NamingRow) -> Result<(Memory, Memory), RowFault>
+    ensures { result ≡ memories_from row.now }
 {
-    let mut text = [0; 32];
-    text[0..bytes.len()].copy_from_slice(bytes);
-    text
+    let memory = Memory::try_from(row.memory)?;
+    let broadcast = Memory::try_from(row.broadcast)?;
+    Ok((memory, broadcast))
 }
 
 impl Naming {
@@ -64,30 +37,34 @@ impl Naming {
     pub fn from_row(row: &NamingRow) -> Result<Naming, RowFault>
         ensures { name_got result ≡ named row.now }
     {
-        match row.check() {
-            Some(fault) => Err(fault),
-            None => Ok(Naming {
-                text: padded(row.mnemonic),
-                used: row.mnemonic.len(),
-                option: OPTIONS[row.option as usize],
-                memory: memory_of(row.memory),
-                broadcast: memory_of(row.broadcast),
-            }),
+        if mnemonic_wrong(row.mnemonic) {
+            return Err(RowFault::Mnemonic);
         }
+        let option = NamingOption::try_from(row.option)?;
+        let (memory, broadcast) = memories(row)?;
+        Ok(Naming {
+            mnemonic: text_of(row.mnemonic),
+            option,
+            memory,
+            broadcast,
+        })
     }
 
+    /// The mnemonic: 1 to 32 letters, digits or `_`.
     pub fn mnemonic(&self) -> &[u8]
         ensures { result.now ≡ (name_in self.now).mnemonic }
     {
-        &self.text[0..self.used]
+        self.mnemonic.as_str().as_bytes()
     }
 
+    /// How the operands are numbered and walked.
     pub fn option(&self) -> NamingOption
         ensures { result ≡ (name_in self.now).option }
     {
         self.option
     }
 
+    /// The memory operand without broadcast.
     pub fn memory(&self) -> Memory
         ensures value { result ≡ (name_in self.now).memory }
         ensures small { result.size ≤ 512 }
@@ -95,10 +72,30 @@ impl Naming {
         self.memory
     }
 
+    /// The memory operand with broadcast.
     pub fn broadcast(&self) -> Memory
         ensures value { result ≡ (name_in self.now).broadcast }
         ensures small { result.size ≤ 512 }
     {
         self.broadcast
+    }
+}
+
+impl<'a> TryFrom<&NamingRow<'a>> for Naming {
+    type Error = RowFault;
+
+    ghost try_from_gives = { λ row r. name_got r ≡ named row.now };
+
+    fn try_from(row: &NamingRow<'a>) -> Result<Naming, RowFault> {
+        Naming::from_row(row)
+    }
+}
+
+impl NamingRow<'_> {
+    /// The first check that the row fails, of 10 and 11.
+    pub fn check(&self) -> Option<RowFault>
+        ensures { result ≡ naming_fault self.now }
+    {
+        Naming::from_row(self).err()
     }
 }
