@@ -1,3 +1,1 @@
-mod Found
 pub mod Lines
-mod Steps

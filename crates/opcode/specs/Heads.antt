@@ -1,5 +1,5 @@
 -- What stands before the ModRM part of an opcode string: the parts in the order in which they are read. Assumes nothing.
-use Rattle.std.specs.Prelude.{ℕ, ◌/◌, ◌%◌, Bool, cond, List, [], ◌++◌, Some, None, codes, Option, unwrap_or}
+use Rattle.std.specs.Prelude.{ℕ, ◌/◌, ◌%◌, Bool, if◌then◌else◌, List, [], ◌++◌, Some, None, codes, Option, unwrap_or}
 use Rattle.std.specs.Option.{option_map_or}
 use Rattle.text.specs.Texts.{hex_text, when}
 use Rattle.kinds.specs.Roles.{is_sti}
@@ -23,7 +23,7 @@ use Rattle.opcode.specs.Operands.{has, first_register}
 abbrev pub op_code_text : ℕ → Bool → List ℕ
 op_code_text value wide = when wide (hex_text (value / 256) ++ codes " ") ++ hex_text (value % 256)
 
--- ---- the words that every head but that of 3DNow! has, each set apart in the head's own way
+-- ---- the words of the prefix and of the table, which each head sets apart in its own way
 
 -- the byte that a mandatory prefix is, in hexadecimal; NP says that none of 66, F3 and F2 may stand there
 abbrev pub prefix_word : Prefix → Option (List ℕ)
@@ -116,7 +116,7 @@ length_text LengthKind.Lz l = codes "LZ"
 
 -- a length that is ignored is LIG, whatever its kind
 abbrev pub vector_length : Form → List ℕ
-vector_length f = cond f.flags.lig (codes "LIG") (length_text f.lkind f.length)
+vector_length f = if f.flags.lig then codes "LIG" else length_text f.lkind f.length
 
 -- NP is left out
 abbrev pub dotted_prefix : Prefix → List ℕ
@@ -129,7 +129,7 @@ dotted_table t = dotted (table_words t).0 ++ unwrap_or (table_words t).1 []
 
 -- W that is ignored is WIG, whatever it is
 abbrev pub w_text : Flags → List ℕ
-w_text g = cond g.wig (codes ".WIG") (cond g.w (codes ".W1") (codes ".W0"))
+w_text g = if g.wig then codes ".WIG" else if g.w then codes ".W1" else codes ".W0"
 
 -- the encoding's name comes first
 abbrev pub vec_head : List ℕ → Form → List ℕ

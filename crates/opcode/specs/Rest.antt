@@ -1,5 +1,5 @@
 -- What stands after the head of an opcode string: the ModRM part, and the suffixes of the operands. Assumes nothing.
-use Rattle.std.specs.Prelude.{ℕ, ◌+◌, ◌/◌, ◌%◌, Bool, true, false, cond, if◌then◌else◌, not, ◌&&◌, ◌||◌, List, [], ◌∷◌, ◌++◌, length, Some, None, codes, Option, nat_lt}
+use Rattle.std.specs.Prelude.{ℕ, ◌+◌, ◌/◌, ◌%◌, Bool, true, false, if◌then◌else◌, not, ◌&&◌, ◌||◌, List, [], ◌∷◌, ◌++◌, length, Some, None, codes, Option, nat_lt}
 use Rattle.text.specs.Texts.{decimal_text, when}
 use Rattle.kinds.specs.Roles.{brings_modrm, is_memory, is_vsib, fixes_rm}
 use Rattle.kinds.specs.Rows.{suffix_of}
@@ -29,13 +29,13 @@ rm_field f ks = if has fixes_rm ks then Some 4 else f.rm
 abbrev pub mod_text : Bool → List ℕ
 mod_text memory = if memory then codes " !(11):" else codes " 11:"
 
--- whether the operand is memory alone, and the reg and rm fields
+-- whether an operand is memory alone, and the reg and rm fields
 abbrev pub info_text : Bool → Option ℕ → Option ℕ → List ℕ
 info_text memory rrr bbb = mod_text memory ++ (bits_text (codes "rrr") rrr ++ (codes ":" ++ bits_text (codes "bbb") bbb))
 
 -- ---- the ModRM byte in brief
 
--- EVEX and XOP have a ModRM byte beside any operand
+-- EVEX, XOP and 3DNow! have a ModRM byte beside any operand
 abbrev pub always_modrm : Encoding → Bool
 always_modrm Legacy = false
 always_modrm Vex = false
@@ -85,7 +85,7 @@ is_last _ = false
 
 abbrev pub suffixes_text : List OperandKind → List ℕ
 suffixes_text [] = []
-suffixes_text (k ∷ ks) = suffix_text (suffix_of k) ++ cond (is_last (suffix_of k)) [] (suffixes_text ks)
+suffixes_text (k ∷ ks) = suffix_text (suffix_of k) ++ (if is_last (suffix_of k) then [] else suffixes_text ks)
 
 abbrev pub rest_text : Form → List OperandKind → List ℕ
 rest_text f ks = modrm_text f ks ++ suffixes_text ks

@@ -6,7 +6,7 @@ use crate::formatter::OpCodeFormatter;
 use crate::op_code::OpCode;
 use crate::words::{Spaced, append_table, mandatory_prefix};
 use forms::codes::Size;
-use kinds::Width;
+use kinds::{Role, Width};
 use text::pieces;
 use text::pieces::{Piece, Text, When};
 use text::writer::{WriteFault, Writer};
@@ -76,7 +76,7 @@ impl OpCodeFormatter<'_> {
             Spaced(second),
             OpCode(form),
             op_code_bits(self.get_op_code_bits_operand()),
-            When(self.has_sti_operand(), Text(b"+i"))
+            When(self.has(Role::is_sti), Text(b"+i"))
         )
         .print(w)
     }

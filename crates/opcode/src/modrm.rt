@@ -4,8 +4,9 @@ ghost use Rattle.opcode.specs.Rest.{bits_text, mod_text, info_text};
 
 use crate::formatter::OpCodeFormatter;
 use forms::codes::Encoding;
+use kinds::Role;
 use text::pieces;
-use text::pieces::{Byte, Decimal, Piece, Text, When};
+use text::pieces::{Decimal, Piece, Text, When};
 use text::writer::{WriteFault, Writer};
 
 // What is said of the ModRM byte: whether it names memory alone, and its reg and rm fields where they are fixed.
@@ -69,14 +70,14 @@ impl OpCodeFormatter<'_> {
             && (matches!(
                 self.form.encoding,
                 Encoding::Evex | Encoding::Xop | Encoding::D3now
-            ) || self.has_modrm_operand())
+            ) || self.has(Role::brings_modrm))
     }
 
     // Only EVEX says that the memory has a vector of indices.
     fn has_vsib(&self) -> bool
         ensures { result ≡ has_vsib self.now.form.encoding self.now.operands.now }
     {
-        self.form.encoding == Encoding::Evex && self.has_vsib_operand()
+        self.form.encoding == Encoding::Evex && self.has(Role::is_vsib)
     }
 
     // Memory with a SIB byte has 4 in the rm field.
@@ -86,9 +87,9 @@ impl OpCodeFormatter<'_> {
         ensures bbb { result.bbb ≡ rm_field self.now.form self.now.operands.now }
     {
         ModRmInfo {
-            memory: self.has_memory_operand(),
+            memory: self.has(Role::is_memory),
             rrr: self.form.group,
-            bbb: if self.has_sib_operand() {
+            bbb: if self.has(Role::fixes_rm) {
                 Some(4)
             } else {
                 self.form.rm

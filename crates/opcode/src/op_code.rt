@@ -15,13 +15,7 @@ impl Piece for OpCode<'_> {
 
     fn print(self, w: &mut Writer) -> Result<(), WriteFault> {
         let OpCode(form) = self;
-        pieces!(
-            When(
-                form.wide,
-                pieces!(Hex((form.opcode / 256) as u8), Text(b" "))
-            ),
-            Hex((form.opcode % 256) as u8)
-        )
-        .print(w)
+        let [high, low] = form.opcode.to_be_bytes();
+        pieces!(When(form.wide, pieces!(Hex(high), Text(b" "))), Hex(low)).print(w)
     }
 }
