@@ -1,6 +1,8 @@
 -- What stands before the ModRM part of an opcode string: the parts in the order in which they are read. Assumes nothing.
-use Rattle.std.specs.Prelude.{ℕ, ◌/◌, ◌%◌, Bool, cond, List, [], ◌++◌, Some, None, codes, Option}
+use Rattle.std.specs.Prelude.{ℕ, ◌/◌, ◌%◌, Bool, if◌then◌else◌, List, [], ◌++◌, Some, None, codes, Option, unwrap_or}
+use Rattle.std.specs.Option.{option_map_or}
 use Rattle.text.specs.Texts.{hex_text, when}
+use Rattle.kinds.specs.Roles.{is_sti}
 use Rattle.kinds.specs.declared.kind.OperandKind.{OperandKind}
 use Rattle.kinds.specs.declared.table.Width.{Width}
 use Rattle.kinds.specs.declared.table.Width.TheVariants.{W8, W16, W32, W64}
@@ -16,11 +18,40 @@ use Rattle.forms.specs.declared.codes.VectorLength.TheVariants.{V128, V256, V512
 use Rattle.forms.specs.declared.form.Flags.{Flags}
 use Rattle.forms.specs.declared.form.Form.{Form}
 use Rattle.opcode.specs.Operands.{has, first_register}
-use Rattle.opcode.specs.declared.operands.Sought.{Sought}
 
 -- the opcode's bytes, of which a wide opcode has two
 abbrev pub op_code_text : ℕ → Bool → List ℕ
 op_code_text value wide = when wide (hex_text (value / 256) ++ codes " ") ++ hex_text (value % 256)
+
+-- ---- the words of the prefix and of the table, which each head sets apart in its own way
+
+-- the byte that a mandatory prefix is, in hexadecimal; NP says that none of 66, F3 and F2 may stand there
+abbrev pub prefix_word : Prefix → Option (List ℕ)
+prefix_word Prefix.Absent = None
+prefix_word Pnp = Some (codes "NP")
+prefix_word P66 = Some (codes "66")
+prefix_word Pf3 = Some (codes "F3")
+prefix_word Pf2 = Some (codes "F2")
+
+-- a table's name, or its one or two bytes in hexadecimal
+abbrev pub table_words : Table → Option (List ℕ) × Option (List ℕ)
+table_words Normal = (None, None)
+table_words T0f = (Some (codes "0F"), None)
+table_words T0f38 = (Some (codes "0F"), Some (codes "38"))
+table_words T0f3a = (Some (codes "0F"), Some (codes "3A"))
+table_words Map5 = (Some (codes "MAP5"), None)
+table_words Map6 = (Some (codes "MAP6"), None)
+table_words Map8 = (Some (codes "X8"), None)
+table_words Map9 = (Some (codes "X9"), None)
+table_words Map10 = (Some (codes "XA"), None)
+
+-- a word and a space
+abbrev pub spaced : Option (List ℕ) → List ℕ
+spaced word = option_map_or (λ t. t ++ codes " ") word []
+
+-- a dot and a word
+abbrev pub dotted : Option (List ℕ) → List ℕ
+dotted word = option_map_or (λ t. codes "." ++ t) word []
 
 -- ---- legacy
 
@@ -38,11 +69,7 @@ operand_text S32 = codes "o32 "
 operand_text S64 = []
 
 abbrev pub prefix_text : Prefix → List ℕ
-prefix_text Prefix.Absent = []
-prefix_text Pnp = codes "NP "
-prefix_text P66 = codes "66 "
-prefix_text Pf3 = codes "F3 "
-prefix_text Pf2 = codes "F2 "
+prefix_text p = spaced (prefix_word p)
 
 -- REX.W, after the mandatory prefix
 abbrev pub rex_text : Size → List ℕ
@@ -52,15 +79,7 @@ rex_text S32 = []
 rex_text S64 = codes "o64 "
 
 abbrev pub table_text : Table → List ℕ
-table_text Normal = []
-table_text T0f = codes "0F "
-table_text T0f38 = codes "0F 38 "
-table_text T0f3a = codes "0F 3A "
-table_text Map5 = codes "MAP5 "
-table_text Map6 = codes "MAP6 "
-table_text Map8 = codes "X8 "
-table_text Map9 = codes "X9 "
-table_text Map10 = codes "XA "
+table_text t = spaced (table_words t).0 ++ spaced (table_words t).1
 
 -- the register in the low bits of the opcode
 abbrev pub register_text : Option Width → List ℕ
@@ -80,7 +99,7 @@ legacy_head f ks =
     ++ (table_text f.table
     ++ (op_code_text f.opcode f.wide
     ++ (register_text (first_register ks)
-    ++ when (has Sought.Sti ks) (codes "+i"))))))))
+    ++ when (has is_sti ks) (codes "+i"))))))))
 
 -- ---- VEX, EVEX and XOP
 
@@ -97,29 +116,20 @@ length_text LengthKind.Lz l = codes "LZ"
 
 -- a length that is ignored is LIG, whatever its kind
 abbrev pub vector_length : Form → List ℕ
-vector_length f = cond f.flags.lig (codes "LIG") (length_text f.lkind f.length)
+vector_length f = if f.flags.lig then codes "LIG" else length_text f.lkind f.length
 
+-- NP is left out
 abbrev pub dotted_prefix : Prefix → List ℕ
-dotted_prefix Prefix.Absent = []
 dotted_prefix Pnp = []
-dotted_prefix P66 = codes ".66"
-dotted_prefix Pf3 = codes ".F3"
-dotted_prefix Pf2 = codes ".F2"
+dotted_prefix p = dotted (prefix_word p)
 
+-- a second byte has no dot before it
 abbrev pub dotted_table : Table → List ℕ
-dotted_table Normal = []
-dotted_table T0f = codes ".0F"
-dotted_table T0f38 = codes ".0F38"
-dotted_table T0f3a = codes ".0F3A"
-dotted_table Map5 = codes ".MAP5"
-dotted_table Map6 = codes ".MAP6"
-dotted_table Map8 = codes ".X8"
-dotted_table Map9 = codes ".X9"
-dotted_table Map10 = codes ".XA"
+dotted_table t = dotted (table_words t).0 ++ unwrap_or (table_words t).1 []
 
 -- W that is ignored is WIG, whatever it is
 abbrev pub w_text : Flags → List ℕ
-w_text g = cond g.wig (codes ".WIG") (cond g.w (codes ".W1") (codes ".W0"))
+w_text g = if g.wig then codes ".WIG" else if g.w then codes ".W1" else codes ".W0"
 
 -- the encoding's name comes first
 abbrev pub vec_head : List ℕ → Form → List ℕ

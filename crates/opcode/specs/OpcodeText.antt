@@ -1,29 +1,11 @@
 -- The opcode string of a form. Assumes nothing.
-use Rattle.std.specs.Prelude.{ℕ, List, ◌++◌, codes}
+use Rattle.std.specs.Prelude.{ℕ, List, ◌++◌, codes, unwrap_or}
 use Rattle.kinds.specs.declared.kind.OperandKind.{OperandKind}
 use Rattle.forms.specs.Forms.{counted}
+use Rattle.forms.specs.Pseudo.{pseudo_text}
 use Rattle.forms.specs.declared.codes.Encoding.{Encoding}
 use Rattle.forms.specs.declared.codes.Encoding.TheVariants.{Legacy, Vex, Evex, Xop, D3now}
 use Rattle.forms.specs.declared.codes.Tag.{Tag}
-use Rattle.forms.specs.declared.codes.Tag.TheVariants.{
-  Plain,
-  Invalid,
-  DeclareByte,
-  DeclareWord,
-  DeclareDword,
-  DeclareQword,
-  ZeroBytes,
-  TwoByte,
-  DescriptorTable,
-  BareSt,
-  ImpliedEdxEax,
-  ImpliedXmm0,
-  ImpliedXmm0To7,
-  ImpliedEaxXmm0,
-  ImpliedXmm0To2And4To6,
-  ImpliedXmm0To6,
-  ImpliedEax,
-}
 use Rattle.forms.specs.declared.form.Form.{Form}
 use Rattle.opcode.specs.Heads.{op_code_text, legacy_head, vec_head}
 use Rattle.opcode.specs.Rest.{rest_text}
@@ -45,25 +27,9 @@ encoded_text Evex f ks = vec_text (codes "EVEX") f ks
 encoded_text Xop f ks = vec_text (codes "XOP") f ks
 encoded_text D3now f ks = d3now_text f
 
--- the six entries that are no instructions have a text of their own, whatever else they hold; t is what the others have
+-- an entry that is no instruction has a text of its own, whatever else it holds; text is what the others have
 abbrev pub tagged_text : Tag → List ℕ → List ℕ
-tagged_text Invalid t = codes "<invalid>"
-tagged_text DeclareByte t = codes "<db>"
-tagged_text DeclareWord t = codes "<dw>"
-tagged_text DeclareDword t = codes "<dd>"
-tagged_text DeclareQword t = codes "<dq>"
-tagged_text ZeroBytes t = codes "<zero_bytes>"
-tagged_text Plain t = t
-tagged_text TwoByte t = t
-tagged_text DescriptorTable t = t
-tagged_text BareSt t = t
-tagged_text ImpliedEdxEax t = t
-tagged_text ImpliedXmm0 t = t
-tagged_text ImpliedXmm0To7 t = t
-tagged_text ImpliedEaxXmm0 t = t
-tagged_text ImpliedXmm0To2And4To6 t = t
-tagged_text ImpliedXmm0To6 t = t
-tagged_text ImpliedEax t = t
+tagged_text t text = unwrap_or (pseudo_text (codes "<zero_bytes>") t) text
 
 -- the opcode string of a form with these operands
 abbrev pub text_with : Form → List OperandKind → List ℕ

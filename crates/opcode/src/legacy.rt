@@ -1,15 +1,12 @@
 // The opcode string of a legacy form: the parts of its head in the order in which they are read.
 ghost use Rattle.std.specs.Prelude.{◌≡◌};
-ghost use Rattle.text.specs.Wrote.{Wrote};
-ghost use Rattle.opcode.specs.Heads.{address_text, operand_text, prefix_text, table_text, register_text, legacy_head};
-ghost use Rattle.opcode.specs.OpcodeText.{legacy_text};
+ghost use Rattle.opcode.specs.Heads.{address_text, operand_text, rex_text, register_text};
 
+use crate::formatter::OpCodeFormatter;
 use crate::op_code::OpCode;
-use crate::operands::{Sought, get_op_code_bits_operand, has};
-use crate::rest::append_rest;
-use forms::codes::{Prefix, Size, Table};
-use forms::form::Form;
-use kinds::{OperandKind, Width};
+use crate::words::{Spaced, append_table, mandatory_prefix};
+use forms::codes::Size;
+use kinds::{Role, Width};
 use text::pieces;
 use text::pieces::{Piece, Text, When};
 use text::writer::{WriteFault, Writer};
@@ -36,31 +33,14 @@ fn operand_size(size: Size) -> Text<'static>
     }
 }
 
-fn mandatory_prefix(prefix: Prefix) -> Text<'static>
-    ensures { result.0.now ≡ prefix_text prefix }
+// REX.W, after the mandatory prefix.
+fn rex_w(size: Size) -> Text<'static>
+    ensures { result.0.now ≡ rex_text size }
 {
-    match prefix {
-        Prefix::Absent => Text(b""),
-        Prefix::Pnp => Text(b"NP "),
-        Prefix::P66 => Text(b"66 "),
-        Prefix::Pf3 => Text(b"F3 "),
-        Prefix::Pf2 => Text(b"F2 "),
-    }
-}
-
-fn append_table(table: Table) -> Text<'static>
-    ensures { result.0.now ≡ table_text table }
-{
-    match table {
-        Table::Normal => Text(b""),
-        Table::T0f => Text(b"0F "),
-        Table::T0f38 => Text(b"0F 38 "),
-        Table::T0f3a => Text(b"0F 3A "),
-        Table::Map5 => Text(b"MAP5 "),
-        Table::Map6 => Text(b"MAP6 "),
-        Table::Map8 => Text(b"X8 "),
-        Table::Map9 => Text(b"X9 "),
-        Table::Map10 => Text(b"XA "),
+    if size == Size::S64 {
+        Text(b"o64 ")
+    } else {
+        Text(b"")
     }
 }
 
@@ -76,33 +56,35 @@ fn op_code_bits(register: Option<Width>) -> Text<'static>
     }
 }
 
-fn legacy_head(w: &mut Writer, form: &Form, operands: &[OperandKind]) -> Result<(), WriteFault>
-    ensures { Wrote w.old (legacy_head form.now operands.now) w.new result }
-{
-    pieces!(
-        When(form.flags.fwait, Text(b"9B ")),
-        address_size(form.address),
-        operand_size(form.operand),
-        mandatory_prefix(form.prefix),
-        When(matches!(form.operand, Size::S64), Text(b"o64 ")),
-        append_table(form.table),
-        OpCode {
-            value: form.opcode,
-            wide: form.wide
-        },
-        op_code_bits(get_op_code_bits_operand(operands)),
-        When(has(operands, Sought::Sti), Text(b"+i"))
-    )
-    .print(w)
-}
+impl OpCodeFormatter<'_> {
+    ghost use Rattle.text.specs.Wrote.{Wrote};
+    ghost use Rattle.opcode.specs.Heads.{legacy_head};
+    ghost use Rattle.opcode.specs.OpcodeText.{legacy_text};
 
-pub(crate) fn format_legacy(
-    w: &mut Writer,
-    form: &Form,
-    operands: &[OperandKind],
-) -> Result<(), WriteFault>
-    ensures { Wrote w.old (legacy_text form.now operands.now) w.new result }
-{
-    legacy_head(w, form, operands)?;
-    append_rest(w, form, operands)
+    fn legacy_head(&self, w: &mut Writer) -> Result<(), WriteFault>
+        ensures { Wrote w.old (legacy_head self.now.form self.now.operands.now) w.new result }
+    {
+        let form = &self.form;
+        let (first, second) = append_table(form.table);
+        pieces!(
+            When(form.flags.fwait, Text(b"9B ")),
+            address_size(form.address),
+            operand_size(form.operand),
+            Spaced(mandatory_prefix(form.prefix)),
+            rex_w(form.operand),
+            Spaced(first),
+            Spaced(second),
+            OpCode(form),
+            op_code_bits(self.get_op_code_bits_operand()),
+            When(self.has(Role::is_sti), Text(b"+i"))
+        )
+        .print(w)
+    }
+
+    pub fn format_legacy(&self, w: &mut Writer) -> Result<(), WriteFault>
+        ensures { Wrote w.old (legacy_text self.now.form self.now.operands.now) w.new result }
+    {
+        self.legacy_head(w)?;
+        self.append_rest(w)
+    }
 }

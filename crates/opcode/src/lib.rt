@@ -2,11 +2,13 @@
 #![tactic(auto)]
 
 mod format;
+mod formatter;
 mod legacy;
 mod modrm;
 mod op_code;
 mod operands;
 mod rest;
 mod vector;
+mod words;
 
 pub use format::{OpcodeString, print_opcode};

@@ -1,56 +1,29 @@
 // The ModRM part: field by field where the form asks for that, else in brief.
 ghost use Rattle.std.specs.Prelude.{◌≡◌};
-ghost use Rattle.text.specs.Wrote.{Wrote};
-ghost use Rattle.opcode.specs.Rest.{bits_text, modrm_info, mod_text, has_mod_rm, has_vsib, modrm_text};
+ghost use Rattle.opcode.specs.Rest.{bits_text, mod_text, info_text};
 
-use crate::operands::{Sought, has};
+use crate::formatter::OpCodeFormatter;
 use forms::codes::Encoding;
-use forms::form::Form;
-use kinds::OperandKind;
+use kinds::Role;
 use text::pieces;
 use text::pieces::{Decimal, Piece, Text, When};
 use text::writer::{WriteFault, Writer};
 
 // What is said of the ModRM byte: whether it names memory alone, and its reg and rm fields where they are fixed.
 #[derive(Clone, Copy)]
-pub(crate) struct ModRmInfo {
-    pub memory: bool,
-    pub rrr: Option<u8>,
-    pub bbb: Option<u8>,
+struct ModRmInfo {
+    memory: bool,
+    rrr: Option<u8>,
+    bbb: Option<u8>,
 }
 
-fn has_mod_rm(encoding: Encoding, operands: &[OperandKind]) -> bool
-    ensures { result ≡ has_mod_rm encoding operands.now }
+fn mod_field(memory: bool) -> Text<'static>
+    ensures { result.0.now ≡ mod_text memory }
 {
-    if operands.len() == 0 {
-        return false;
-    }
-    match encoding {
-        Encoding::Legacy | Encoding::Vex => has(operands, Sought::ModRm),
-        Encoding::Evex | Encoding::Xop | Encoding::D3now => true,
-    }
-}
-
-fn has_vsib(encoding: Encoding, operands: &[OperandKind]) -> bool
-    ensures { result ≡ has_vsib encoding operands.now }
-{
-    match encoding {
-        Encoding::Evex => has(operands, Sought::Vsib),
-        Encoding::Legacy | Encoding::Vex | Encoding::Xop | Encoding::D3now => false,
-    }
-}
-
-fn get_modrm_info(form: &Form, operands: &[OperandKind]) -> ModRmInfo
-    ensures { result ≡ modrm_info form.now operands.now }
-{
-    ModRmInfo {
-        memory: has(operands, Sought::Memory),
-        rrr: form.group,
-        bbb: if has(operands, Sought::FixedRm) {
-            Some(4)
-        } else {
-            form.rm
-        },
+    if memory {
+        Text(b" !(11):")
+    } else {
+        Text(b" 11:")
     }
 }
 
@@ -64,53 +37,80 @@ impl Piece for Bits {
     fn print(self, w: &mut Writer) -> Result<(), WriteFault> {
         match self.1 {
             None => w.text(self.0),
-            Some(n) => w.text(&[b'0' + n / 4 % 2, b'0' + n / 2 % 2, b'0' + n % 2]),
+            Some(n) => w.text(&[b'0' + (n >> 2 & 1), b'0' + (n >> 1 & 1), b'0' + (n & 1)]),
         }
     }
 }
 
-fn mod_field(memory: bool) -> Text<'static>
-    ensures { result.0.now ≡ mod_text memory }
-{
-    if memory {
-        Text(b" !(11):")
-    } else {
-        Text(b" 11:")
-    }
-}
+impl Piece for ModRmInfo {
+    ghost spelled = { λ x. info_text x.memory x.rrr x.bbb };
 
-// The fields of the ModRM byte, or in brief: the group or r, and that it has a vector of indices.
-pub(crate) fn append_modrm(
-    w: &mut Writer,
-    form: &Form,
-    operands: &[OperandKind],
-) -> Result<(), WriteFault>
-    ensures { Wrote w.old (modrm_text form.now operands.now) w.new result }
-{
-    if form.flags.modrm {
-        let info = get_modrm_info(form, operands);
+    fn print(self, w: &mut Writer) -> Result<(), WriteFault> {
         pieces!(
-            mod_field(info.memory),
-            Bits(b"rrr", info.rrr),
+            mod_field(self.memory),
+            Bits(b"rrr", self.rrr),
             Text(b":"),
-            Bits(b"bbb", info.bbb)
+            Bits(b"bbb", self.bbb)
         )
         .print(w)
-    } else {
-        let vsib = has_vsib(form.encoding, operands);
-        let modrm = has_mod_rm(form.encoding, operands);
-        match form.group {
-            Some(group) => pieces!(
-                Text(b" /"),
-                Decimal(group as u32),
-                When(vsib, Text(b" /vsib"))
-            )
-            .print(w),
-            None => pieces!(
-                When(!vsib && modrm, Text(b" /r")),
-                When(vsib, Text(b" /vsib"))
-            )
-            .print(w),
+    }
+}
+
+impl OpCodeFormatter<'_> {
+    ghost use Rattle.kinds.specs.Roles.{is_memory};
+    ghost use Rattle.text.specs.Wrote.{Wrote};
+    ghost use Rattle.opcode.specs.Operands.{has};
+    ghost use Rattle.opcode.specs.Rest.{has_mod_rm, has_vsib, rm_field, modrm_text};
+
+    // Beside an operand EVEX, XOP and 3DNow! always have a ModRM byte.
+    fn has_mod_rm(&self) -> bool
+        ensures { result ≡ has_mod_rm self.now.form.encoding self.now.operands.now }
+    {
+        !self.operands.is_empty()
+            && (matches!(
+                self.form.encoding,
+                Encoding::Evex | Encoding::Xop | Encoding::D3now
+            ) || self.has(Role::brings_modrm))
+    }
+
+    // Only EVEX says that the memory has a vector of indices.
+    fn has_vsib(&self) -> bool
+        ensures { result ≡ has_vsib self.now.form.encoding self.now.operands.now }
+    {
+        self.form.encoding == Encoding::Evex && self.has(Role::is_vsib)
+    }
+
+    // Memory with a SIB byte has 4 in the rm field.
+    fn get_modrm_info(&self) -> ModRmInfo
+        ensures memory { result.memory ≡ has is_memory self.now.operands.now }
+        ensures rrr { result.rrr ≡ self.now.form.group }
+        ensures bbb { result.bbb ≡ rm_field self.now.form self.now.operands.now }
+    {
+        ModRmInfo {
+            memory: self.has(Role::is_memory),
+            rrr: self.form.group,
+            bbb: if self.has(Role::fixes_rm) {
+                Some(4)
+            } else {
+                self.form.rm
+            },
         }
+    }
+
+    // The fields of the ModRM byte, or in brief: the group or r, and that it has a vector of indices.
+    pub fn append_modrm(&self, w: &mut Writer) -> Result<(), WriteFault>
+        ensures { Wrote w.old (modrm_text self.now.form self.now.operands.now) w.new result }
+    {
+        if self.form.flags.modrm {
+            return self.get_modrm_info().print(w);
+        }
+        let group = self.form.group;
+        let vsib = self.has_vsib();
+        pieces!(
+            group.map(|group| pieces!(Text(b" /"), Decimal(group as u32))),
+            When(group.is_none() && !vsib && self.has_mod_rm(), Text(b" /r")),
+            When(vsib, Text(b" /vsib"))
+        )
+        .print(w)
     }
 }

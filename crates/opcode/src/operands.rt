@@ -1,52 +1,26 @@
 // What the opcode string asks of a form's operands.
-ghost use Rattle.std.specs.Prelude.{◌≡◌};
-ghost use Rattle.opcode.specs.Operands.{is, has, first_register};
+use crate::formatter::OpCodeFormatter;
+use kinds::{Role, Width};
 
-use kinds::{OperandKind, Role, Width};
+impl OpCodeFormatter<'_> {
+    ghost use Rattle.std.specs.Prelude.{◌≡◌, Bool};
+    ghost use Rattle.kinds.specs.declared.table.Role.{Role};
+    ghost use Rattle.opcode.specs.Operands.{has, first_register};
 
-// What is looked for among the operands: one that the ModRM byte holds, memory, memory with a vector of indices,
-// memory that has 4 in the rm field, or a register of the FPU stack in the opcode.
-#[derive(Clone, Copy)]
-pub(crate) enum Sought {
-    ModRm,
-    Memory,
-    Vsib,
-    FixedRm,
-    Sti,
-}
-
-fn is(role: Role, sought: Sought) -> bool
-    ensures { result ≡ is sought role }
-{
-    match sought {
-        Sought::ModRm => role.brings_modrm(),
-        Sought::Memory => role.is_memory(),
-        Sought::Vsib => role.is_vsib(),
-        Sought::FixedRm => role.fixes_rm(),
-        Sought::Sti => role.is_sti(),
+    // Whether the role of one of the operands passes the test, which computes some predicate p.
+    pub fn has<F: Fn(Role) -> bool>(&self, test: F) -> bool
+        requires { F.IsAlwaysCallable test }
+        ensures { (p : Role → Bool) → ((r : Role) (b : Bool) → F.post test r b → b ≡ p r) → result ≡ has p self.now.operands.now }
+    {
+        self.operands.iter().any(|kind| test(kind.role()))
     }
-}
 
-// Whether one of the operands is what is sought.
-pub(crate) fn has(operands: &[OperandKind], sought: Sought) -> bool
-    ensures { result ≡ has sought operands.now }
-{
-    for kind in operands {
-        if is(kind.role(), sought) {
-            return true;
-        }
+    // The width of the first operand that is a register in the low bits of the opcode.
+    pub fn get_op_code_bits_operand(&self) -> Option<Width>
+        ensures { result ≡ first_register self.now.operands.now }
+    {
+        self.operands
+            .iter()
+            .find_map(|kind| kind.role().opcode_register())
     }
-    false
-}
-
-// The width of the first operand that is a register in the low bits of the opcode.
-pub(crate) fn get_op_code_bits_operand(operands: &[OperandKind]) -> Option<Width>
-    ensures { result ≡ first_register operands.now }
-{
-    for kind in operands {
-        if let Some(width) = kind.role().opcode_register() {
-            return Some(width);
-        }
-    }
-    None
 }

@@ -1,5 +1,5 @@
 use Rattle.text.proofs.Writes.{then, stops}
-use Rattle.opcode.proofs.vector.format_vec_encoding.Goals as goal
+use Rattle.opcode.proofs.formatter.OpCodeFormatter.format_vec_encoding.Goals as goal
 
 pub returns-in_err-vec_head : goal.returns-in_err-vec_head
 returns-in_err-vec_head c = stops _ c.in_err-vec_head.ensures c.from_residual.ensures.1

@@ -1,5 +1,5 @@
 use Rattle.text.proofs.Writes.{then, stops}
-use Rattle.opcode.proofs.rest.append_rest.Goals as goal
+use Rattle.opcode.proofs.formatter.OpCodeFormatter.append_rest.Goals as goal
 
 pub returns-in_err-append_modrm : goal.returns-in_err-append_modrm
 returns-in_err-append_modrm c = stops _ c.in_err-append_modrm.ensures c.from_residual.ensures.1

@@ -1,5 +1,5 @@
 use Rattle.text.proofs.Writes.{then, stops}
-use Rattle.opcode.proofs.legacy.format_legacy.Goals as goal
+use Rattle.opcode.proofs.formatter.OpCodeFormatter.format_legacy.Goals as goal
 
 pub returns-in_err-legacy_head : goal.returns-in_err-legacy_head
 returns-in_err-legacy_head c = stops _ c.in_err-legacy_head.ensures c.from_residual.ensures.1

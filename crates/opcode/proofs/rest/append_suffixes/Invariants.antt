@@ -1,7 +1,0 @@
-use Rattle.std.proofs.Common.{drop}
-use Rattle.text.proofs.Writes.{Begun}
-use Rattle.opcode.specs.Rest.{suffixes_text}
-use Rattle.opcode.proofs.rest.append_suffixes.Given as goal
-
-abbrev pub invariant-loop-kind : goal.invariant-loop-kind
-invariant-loop-kind l = Begun l.initial.w (suffixes_text l.operands) (suffixes_text (drop l.kind-index l.operands)) l.w
