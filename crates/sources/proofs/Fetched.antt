@@ -1,5 +1,6 @@
 -- What `fetched` gives of lists that are cut and joined.
 use Rattle.std.proofs.Common.{◌≡◌, ℕ, zero, suc, ◌+◌, ◌<◌, ◌≤◌, ltb, List, [], ◌∷◌, ◌++◌, length, get_or, take, drop, is_ok, Ok, Err, Result, sym, refl, ap, ◌∙◌, le_of_suc-le-suc, not-suc-le-zero, suc-add, zero-add, arith}
+use Rattle.std.specs.List.{zip}
 use Rattle.std.proofs.lemmas.Bool.{le-ltb, lt-ltb}
 use Rattle.std.proofs.lemmas.Bool.Decides.{nat_tests}
 use Rattle.forms.specs.Made.{name_got}
@@ -15,6 +16,15 @@ module _ {X : Type 0} where
 
   never : {x : X} {f : SourceFault} → ◌≡◌ {A = Result X SourceFault} (Ok x) (Err f) → ⊥
   never e = let z : ◌≡◌ {A = ℕ} 0 1 = cc in omega arith
+
+  ended : {e f : SourceFault} → ◌≡◌ {A = Result X SourceFault} (Err e) (Err f) → e ≡ f
+  ended e = cc
+
+  -- no entry is the one refusal
+  only_end : (xs : List X) (n : ℕ) {f : SourceFault} → Err f ≡ fetched xs n → f ≡ NoEntry
+  only_end [] n e = ended e
+  only_end (x ∷ xs) zero e = absurd (never (sym e))
+  only_end (x ∷ xs) (suc n) e = only_end xs n e
 
   pub fetched_past : (xs : List X) (n : ℕ) → length xs ≤ n → fetched xs n ≡ Err NoEntry
   fetched_past [] n h = refl
@@ -67,6 +77,26 @@ module _ {X : Type 0} where
   fetched_within [] n = sym (le-ltb n 0 (omega arith))
   fetched_within (x ∷ xs) zero = sym (lt-ltb 0 (length (x ∷ xs)) (omega arith))
   fetched_within (x ∷ xs) (suc n) = let rest = fetched_within xs n in grind (arith, nat_tests)
+
+-- two lists at one place: what stands there in both, or the end of either
+module _ {X Y : Type 0} where
+  pub fetched-zip : (xs : List X) (ys : List Y) (n : ℕ) {x : X} {y : Y} → Ok x ≡ fetched xs n → Ok y ≡ fetched ys n → Ok (x, y) ≡ fetched (zip xs ys) n
+  fetched-zip [] ys n e h = absurd (never e)
+  fetched-zip (x ∷ xs) [] n e h = absurd (never h)
+  fetched-zip (x ∷ xs) (y ∷ ys) zero e h = λ i. Ok (same e i, same h i)
+  fetched-zip (x ∷ xs) (y ∷ ys) (suc n) e h = fetched-zip xs ys n e h
+
+  pub no_first : (xs : List X) (ys : List Y) (n : ℕ) {f : SourceFault} → Err f ≡ fetched xs n → Err f ≡ fetched (zip xs ys) n
+  no_first [] ys n e = ap Err (ended e)
+  no_first (x ∷ xs) [] n e = ap Err (only_end (x ∷ xs) n e)
+  no_first (x ∷ xs) (y ∷ ys) zero e = absurd (never (sym e))
+  no_first (x ∷ xs) (y ∷ ys) (suc n) e = no_first xs ys n e
+
+  pub no_second : (xs : List X) (ys : List Y) (n : ℕ) {f : SourceFault} → Err f ≡ fetched ys n → Err f ≡ fetched (zip xs ys) n
+  no_second [] ys n e = ap Err (only_end ys n e)
+  no_second (x ∷ xs) [] n e = ap Err (ended e)
+  no_second (x ∷ xs) (y ∷ ys) zero e = absurd (never (sym e))
+  no_second (x ∷ xs) (y ∷ ys) (suc n) e = no_second xs ys n e
 
 same_kind : (r : Result Naming SourceFault) → is_ok r ≡ is_ok (name_got r)
 same_kind (Ok n) = refl

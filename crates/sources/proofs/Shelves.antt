@@ -10,6 +10,7 @@ use Rattle.forms.specs.declared.fault.RowFault.{RowFault}
 use Rattle.forms.specs.declared.form.Form.{Form}
 use Rattle.forms.specs.declared.row.FormRow.{FormRow}
 use Rattle.forms.specs.declared.row.NamingRow.{NamingRow}
+use Rattle.sources.specs.Lengths.{shelves_as_long}
 use Rattle.sources.specs.Shelves.{pair_fault, at_place, refused_from, first_refused, pairs, shelf_answer, check_shelf, shelf_forms, shelf_names}
 use Rattle.sources.specs.Sources.{fetched, checked}
 use Rattle.sources.specs.declared.fault.SourceFault.{SourceFault}
@@ -81,18 +82,11 @@ module _ {X Y : Type 0} (f : X → Y) where
       ∙ ap (λ x. Ok (f x)) (get_or-take k xs n d w.0)
   fetched-checked (Err e) k xs n d h = absurd (not-suc-le-zero h)
 
-even : {X Y : Type 0} (o : Result (Unit {0}) SourceFault) (xs : List X) (ys : List Y) → length xs ≡ length ys → length (checked o xs) ≡ length (checked o ys)
-even (Ok u) xs ys h = h
-even (Err e) xs ys h = refl
-
 one : {X : Type 0} (xs : List X) (n : ℕ) → n < length xs → X
 one [] n h = absurd (not-suc-le-zero h)
 one (x ∷ xs) n h = x
 
 module _ (rs : List FormRow) (ns : List NamingRow) where
-  pub length_shelf : length (shelf_forms rs ns) ≡ length (shelf_names rs ns)
-  length_shelf = even (check_shelf rs ns) _ _ (simp (length-map, length-take) (omega arith))
-
   pub shelf_count : check_shelf rs ns ≡ Ok tt → length (shelf_forms rs ns) ≡ pairs rs ns
   shelf_count e = ap (λ o. length (checked o (map typed (take (pairs rs ns) rs)))) e ∙ simp (length-map, length-take) (omega arith)
 
@@ -127,7 +121,7 @@ module _ (rs : List FormRow) (ns : List NamingRow) where
 
     pub name_here : (e : NamingRow) {m : Name} → Ok m ≡ named (get_or ns n e) → Ok m ≡ fetched (shelf_names rs ns) n
     name_here e p =
-        let l = length_shelf in
+        let l = shelves_as_long rs ns in
         let q = named_shelf e in
         let r = fetched-checked name_of (check_shelf rs ns) (pairs rs ns) ns n e (omega arith) in
         cc

@@ -3,4 +3,5 @@ pub mod Sources
 pub mod Places
 pub mod Shelves
 pub mod Front
-pub mod Short
+pub mod Entries
+pub mod Lengths

@@ -1,8 +1,8 @@
 // The six pseudo entries that stand before all others: one that is invalid, four that declare data, and the empty one.
-ghost use Rattle.std.specs.Prelude.{◌≡◌, ◌<◌, Ok, codes, slice_index_or};
+ghost use Rattle.std.specs.Prelude.{◌≡◌, ◌<◌, Ok, codes, refl, slice_index_or};
 ghost use Rattle.forms.specs.Forms.{described, tag_of};
 ghost use Rattle.sources.specs.Front.{pseudo_form, pseudo_name, front_forms, front_names};
-ghost use Rattle.sources.specs.Short.{front_short};
+ghost use Rattle.sources.specs.Lengths.{front_short};
 
 use crate::fault::SourceFault;
 use crate::source::{NamingSource, Source};
@@ -75,12 +75,10 @@ impl Source for FrontMatter {
 impl NamingSource for FrontMatter {
     ghost names = { λ _. front_names };
 
-    fn naming_count(&self) -> u32 {
-        6
-    }
+    ghost as_long = { λ _. refl };
 
     fn fetch_naming(&self, n: u32) -> Result<Naming, SourceFault> {
-        if n >= self.naming_count() {
+        if n >= self.count() {
             return Err(SourceFault::NoEntry);
         }
         let row = NamingRow {

@@ -2,7 +2,7 @@
 ghost use Rattle.std.specs.Prelude.{◌≡◌, ◌≤◌, length};
 ghost use Rattle.sources.specs.Places.{joined_count, joined_place};
 ghost use Rattle.sources.specs.Sources.{most, chained, check_joined};
-ghost use Rattle.sources.specs.Short.{chained_short};
+ghost use Rattle.sources.specs.Lengths.{chained_short, chains_as_long};
 
 use crate::fault::SourceFault;
 use crate::source::{MOST, NamingSource, Source};
@@ -82,12 +82,10 @@ impl<A: Source, B: Source> Source for Joined<A, B> {
 impl<A: NamingSource, B: NamingSource> NamingSource for Joined<A, B> {
     ghost names = { λ j. chained (A.NamingSource.names j.first) (B.NamingSource.names j.second) };
 
-    fn naming_count(&self) -> u32 {
-        total(self.first.naming_count(), self.second.naming_count())
-    }
+    ghost as_long = { λ j. chains_as_long (A.NamingSource.names j.first) (B.NamingSource.names j.second) (A.Source.list j.first) (B.Source.list j.second) (A.NamingSource.as_long j.first) (B.NamingSource.as_long j.second) };
 
     fn fetch_naming(&self, n: u32) -> Result<Naming, SourceFault> {
-        match place(self.first.naming_count(), self.second.naming_count(), n)? {
+        match place(self.first.count(), self.second.count(), n)? {
             Side::First(k) => self.first.fetch_naming(k),
             Side::Second(k) => self.second.fetch_naming(k),
         }

@@ -1,7 +1,7 @@
 // Rows in the caller's memory, as a source.
 ghost use Rattle.std.specs.Prelude.{◌≡◌, length};
 ghost use Rattle.sources.specs.Shelves.{pair_fault, pairs, first_refused, check_shelf, shelf_forms, shelf_names};
-ghost use Rattle.sources.specs.Short.{shelf_short};
+ghost use Rattle.sources.specs.Lengths.{shelf_short, shelves_as_long};
 
 use crate::fault::SourceFault;
 use crate::source::{MOST, NamingSource, Source};
@@ -105,9 +105,7 @@ impl Source for Shelf<'_, '_, '_> {
 impl NamingSource for Shelf<'_, '_, '_> {
     ghost names = { λ s. shelf_names s.rows.now s.namings.now };
 
-    fn naming_count(&self) -> u32 {
-        self.count
-    }
+    ghost as_long = { λ s. shelves_as_long s.rows.now s.namings.now };
 
     fn fetch_naming(&self, n: u32) -> Result<Naming, SourceFault> {
         if n >= self.count {

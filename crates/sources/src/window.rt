@@ -2,7 +2,7 @@
 ghost use Rattle.std.specs.Prelude.{◌≡◌, length};
 ghost use Rattle.sources.specs.Places.{window_count, window_place};
 ghost use Rattle.sources.specs.Sources.{cut, check_window};
-ghost use Rattle.sources.specs.Short.{cut_short};
+ghost use Rattle.sources.specs.Lengths.{cut_short, cuts_as_long};
 
 use crate::fault::SourceFault;
 use crate::source::{NamingSource, Source};
@@ -72,12 +72,10 @@ impl<S: Source> Source for Window<S> {
 impl<S: NamingSource> NamingSource for Window<S> {
     ghost names = { λ w. cut (S.NamingSource.names w.source) w.from w.to };
 
-    fn naming_count(&self) -> u32 {
-        self.width(self.source.naming_count())
-    }
+    ghost as_long = { λ w. cuts_as_long (S.NamingSource.names w.source) (S.Source.list w.source) w.from w.to (S.NamingSource.as_long w.source) };
 
     fn fetch_naming(&self, n: u32) -> Result<Naming, SourceFault> {
-        let place = self.place(self.source.naming_count(), n)?;
+        let place = self.place(self.source.count(), n)?;
         self.source.fetch_naming(place)
     }
 }
