@@ -1,12 +1,14 @@
 -- What `fetched` gives of lists that are cut and joined.
 use Rattle.std.proofs.Common.{◌≡◌, ℕ, zero, suc, ◌+◌, ◌<◌, ◌≤◌, ltb, List, [], ◌∷◌, ◌++◌, length, get_or, take, drop, is_ok, Ok, Err, Result, sym, refl, ap, ◌∙◌, le_of_suc-le-suc, not-suc-le-zero, suc-add, zero-add, arith}
 use Rattle.std.specs.List.{zip}
+use Rattle.std.proofs.Math.Seq.{drop-nil}
+use Rattle.std.proofs.lemmas.Slice.Zip.{length-zip}
 use Rattle.std.proofs.lemmas.Bool.{le-ltb, lt-ltb}
 use Rattle.std.proofs.lemmas.Bool.Decides.{nat_tests}
 use Rattle.forms.specs.Made.{name_got}
 use Rattle.forms.specs.Names.{Name}
 use Rattle.forms.specs.declared.naming.Naming.{Naming}
-use Rattle.sources.specs.Sources.{fetched}
+use Rattle.sources.specs.Sources.{fetched, most}
 use Rattle.sources.specs.declared.fault.SourceFault.{SourceFault}
 use Rattle.sources.specs.declared.fault.SourceFault.TheVariants.{NoEntry}
 
@@ -68,6 +70,16 @@ module _ {X : Type 0} where
   fetched_rest (y ∷ ys) zero e = ap (λ z. z ∷ ys) (sym (same e))
   fetched_rest (y ∷ ys) (suc n) {x} e = fetched_rest ys n e ∙ ap (λ k. x ∷ drop k (y ∷ ys)) (sym (suc-add n 1))
 
+  pub fetched_below : (xs : List X) (n : ℕ) {x : X} → Ok x ≡ fetched xs n → n < length xs
+  fetched_below [] n e = absurd (never e)
+  fetched_below (y ∷ ys) zero e = omega arith
+  fetched_below (y ∷ ys) (suc n) e = let rest = fetched_below ys n e in omega arith
+
+  pub fetched_end : (xs : List X) (n : ℕ) {f : SourceFault} → Err f ≡ fetched xs n → drop n xs ≡ []
+  fetched_end [] n e = drop-nil n
+  fetched_end (x ∷ xs) zero e = absurd (never (sym e))
+  fetched_end (x ∷ xs) (suc n) e = fetched_end xs n e
+
   pub fetched_some : (xs : List X) (n : ℕ) {f : SourceFault} → n < length xs → Err f ≡ fetched xs n → ⊥
   fetched_some [] n h e = not-suc-le-zero h
   fetched_some (x ∷ xs) zero h e = never (sym e)
@@ -77,6 +89,11 @@ module _ {X : Type 0} where
   fetched_within [] n = sym (le-ltb n 0 (omega arith))
   fetched_within (x ∷ xs) zero = sym (lt-ltb 0 (length (x ∷ xs)) (omega arith))
   fetched_within (x ∷ xs) (suc n) = let rest = fetched_within xs n in grind (arith, nat_tests)
+
+-- no entry of two lists stands above the most that one may have
+module _ {X Y : Type 0} (xs : List X) (ys : List Y) (n : ℕ) where
+  pub zip_below : {e : X × Y} → Ok e ≡ fetched (zip xs ys) n → length xs ≤ most → n < most
+  zip_below e h = omega (arith, fetched_below (zip xs ys) n e, length-zip xs ys)
 
 -- two lists at one place: what stands there in both, or the end of either
 module _ {X Y : Type 0} where

@@ -1,6 +1,5 @@
 // A source is a list of forms that is fetched by number.
-ghost use Rattle.std.specs.Prelude.{◌≡◌, ◌≤◌, List, length, is_ok, nat_lt};
-ghost use Rattle.std.specs.List.{zip};
+ghost use Rattle.std.specs.Prelude.{◌≡◌, ◌≤◌, List, length, is_ok, nat_lt, zip};
 ghost use Rattle.forms.specs.Made.{form_got, name_got};
 ghost use Rattle.forms.specs.Names.{Name};
 ghost use Rattle.forms.specs.declared.form.Form.{Form};
