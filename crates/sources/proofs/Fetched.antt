@@ -90,10 +90,13 @@ module _ {X : Type 0} where
   fetched_within (x ∷ xs) zero = sym (lt-ltb 0 (length (x ∷ xs)) (omega arith))
   fetched_within (x ∷ xs) (suc n) = let rest = fetched_within xs n in grind (arith, nat_tests)
 
--- no entry of two lists stands above the most that one may have
-module _ {X Y : Type 0} (xs : List X) (ys : List Y) (n : ℕ) where
-  pub zip_below : {e : X × Y} → Ok e ≡ fetched (zip xs ys) n → length xs ≤ most → n < most
-  zip_below e h = omega (arith, fetched_below (zip xs ys) n e, length-zip xs ys)
+-- two lists side by side are no longer than the first
+module _ {X Y : Type 0} (xs : List X) (ys : List Y) where
+  pub zip_short : length xs ≤ most → length (zip xs ys) ≤ most
+  zip_short h = omega (arith, length-zip xs ys)
+
+  pub zip_below : (n : ℕ) {e : X × Y} → Ok e ≡ fetched (zip xs ys) n → length xs ≤ most → n < most
+  zip_below n e h = omega (arith, fetched_below (zip xs ys) n e, length-zip xs ys)
 
 -- two lists at one place: what stands there in both, or the end of either
 module _ {X Y : Type 0} where

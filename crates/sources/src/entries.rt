@@ -1,7 +1,8 @@
 // The entries of a naming source, one after another.
-ghost use Rattle.std.specs.Prelude.{◌≡◌, zip};
+ghost use Rattle.std.specs.Prelude.{◌≡◌, ◌≤◌, length, zip};
 ghost use Rattle.std.specs.Iterator.{YieldsFirstBy, item_count};
 ghost use Rattle.sources.specs.Entries.{entry_in};
+ghost use Rattle.sources.specs.Sources.{most};
 
 use crate::source::NamingSource;
 use forms::description::Description;
@@ -28,7 +29,8 @@ impl<'a, S: NamingSource> Model for Entries<'a, S> {
 impl<'a, S: NamingSource> Entries<'a, S> {
     /// The entries of a source, in their order.
     pub fn of(source: &'a S) -> Entries<'a, S>
-        ensures { result ≡ zip (S.Source.list source.now) (S.NamingSource.names source.now) }
+        ensures all { result ≡ zip (S.Source.list source.now) (S.NamingSource.names source.now) }
+        ensures short { length result ≤ most }
     {
         Entries { source, next: 0 }
     }

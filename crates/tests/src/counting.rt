@@ -1,5 +1,5 @@
 // Generic code over any naming source, on what the traits promise alone, and sources that stand on one another.
-ghost use Rattle.std.specs.Prelude.{◌≡◌, count_by, zip};
+ghost use Rattle.std.specs.Prelude.{◌≡◌};
 ghost use Rattle.forms.specs.Made.{form_in, name_in};
 ghost use Rattle.sources.specs.Front.{front_forms, front_names};
 ghost use Rattle.sources.specs.Shelves.{shelf_forms, shelf_names};
@@ -23,12 +23,12 @@ fn is_like(description: &Description, naming: &Naming, opcode: u16, letters: usi
 }
 
 /// How many entries have the opcode and a mnemonic of so many letters.
-pub fn count_like<S: NamingSource>(source: &S, opcode: u16, letters: usize) -> usize
-    ensures { result ≡ count_by (λ e. is_like opcode letters e.0 e.1) (zip (S.Source.list source.now) (S.NamingSource.names source.now)) }
+pub fn count_like<S: NamingSource>(source: &S, opcode: u16, letters: usize) -> u32
+    ensures { result ≡ alike opcode letters (S.Source.list source.now) (S.NamingSource.names source.now) }
 {
     Entries::of(source)
         .filter(|(description, naming)| is_like(description, naming, opcode, letters))
-        .count()
+        .count() as u32
 }
 
 /// The same in a window over the front matter and then a shelf.
