@@ -9,12 +9,13 @@ use crate::source::{NamingSource, Source};
 use forms::description::Description;
 use forms::naming::Naming;
 use forms::row::{FormRow, MemoryRow, NamingRow};
+use kinds::OperandKind;
 
 /// The source of the six.
-#[derive(Clone, Copy)]
+#[derive(Clone, Copy, Debug, PartialEq, Eq)]
 pub struct FrontMatter;
 
-const NO_KIND: u32 = 12;
+const NO_KIND: u32 = OperandKind::Absent as u32;
 
 const NO_MEMORY: MemoryRow = MemoryRow { label: 0, size: 0 };
 

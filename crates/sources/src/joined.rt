@@ -10,7 +10,7 @@ use forms::description::Description;
 use forms::naming::Naming;
 
 /// The list of `first`, and then that of `second`.
-#[derive(Drop)]
+#[derive(Clone, Copy, Debug, PartialEq, Eq)]
 pub struct Joined<A, B> {
     pub first: A,
     pub second: B,

@@ -10,7 +10,7 @@ use forms::description::Description;
 use forms::naming::Naming;
 
 /// The entries from `from` up to, without, `to`.
-#[derive(Drop)]
+#[derive(Clone, Copy, Debug, PartialEq, Eq)]
 pub struct Window<S> {
     pub source: S,
     pub from: u32,
