@@ -1,6 +1,7 @@
 pub mod Faults
 pub mod Sources
 pub mod Places
+pub mod JoinedAll
 pub mod Shelves
 pub mod Shelved
 pub mod Front

@@ -5,6 +5,7 @@ pub mod entries;
 pub mod fault;
 pub mod front;
 pub mod joined;
+pub mod joined_all;
 pub mod lent;
 pub mod shelf;
 pub mod source;
