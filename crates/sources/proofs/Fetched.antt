@@ -1,11 +1,14 @@
 -- What `fetched` gives of lists that are cut and joined.
 use Rattle.std.proofs.Common.{◌≡◌, ℕ, zero, suc, ◌+◌, ◌<◌, ◌≤◌, ltb, List, [], ◌∷◌, ◌++◌, length, get_or, take, drop, is_ok, Ok, Err, Result, sym, refl, ap, ◌∙◌, le_of_suc-le-suc, not-suc-le-zero, suc-add, zero-add, arith}
+use Rattle.std.specs.List.{zip}
+use Rattle.std.proofs.Math.Seq.{drop-nil}
+use Rattle.std.proofs.lemmas.Slice.Zip.{length-zip}
 use Rattle.std.proofs.lemmas.Bool.{le-ltb, lt-ltb}
 use Rattle.std.proofs.lemmas.Bool.Decides.{nat_tests}
 use Rattle.forms.specs.Made.{name_got}
 use Rattle.forms.specs.Names.{Name}
 use Rattle.forms.specs.declared.naming.Naming.{Naming}
-use Rattle.sources.specs.Sources.{fetched}
+use Rattle.sources.specs.Sources.{fetched, most}
 use Rattle.sources.specs.declared.fault.SourceFault.{SourceFault}
 use Rattle.sources.specs.declared.fault.SourceFault.TheVariants.{NoEntry}
 
@@ -15,6 +18,15 @@ module _ {X : Type 0} where
 
   never : {x : X} {f : SourceFault} → ◌≡◌ {A = Result X SourceFault} (Ok x) (Err f) → ⊥
   never e = let z : ◌≡◌ {A = ℕ} 0 1 = cc in omega arith
+
+  ended : {e f : SourceFault} → ◌≡◌ {A = Result X SourceFault} (Err e) (Err f) → e ≡ f
+  ended e = cc
+
+  -- no entry is the one refusal
+  only_end : (xs : List X) (n : ℕ) {f : SourceFault} → Err f ≡ fetched xs n → f ≡ NoEntry
+  only_end [] n e = ended e
+  only_end (x ∷ xs) zero e = absurd (never (sym e))
+  only_end (x ∷ xs) (suc n) e = only_end xs n e
 
   pub fetched_past : (xs : List X) (n : ℕ) → length xs ≤ n → fetched xs n ≡ Err NoEntry
   fetched_past [] n h = refl
@@ -58,6 +70,16 @@ module _ {X : Type 0} where
   fetched_rest (y ∷ ys) zero e = ap (λ z. z ∷ ys) (sym (same e))
   fetched_rest (y ∷ ys) (suc n) {x} e = fetched_rest ys n e ∙ ap (λ k. x ∷ drop k (y ∷ ys)) (sym (suc-add n 1))
 
+  pub fetched_below : (xs : List X) (n : ℕ) {x : X} → Ok x ≡ fetched xs n → n < length xs
+  fetched_below [] n e = absurd (never e)
+  fetched_below (y ∷ ys) zero e = omega arith
+  fetched_below (y ∷ ys) (suc n) e = let rest = fetched_below ys n e in omega arith
+
+  pub fetched_end : (xs : List X) (n : ℕ) {f : SourceFault} → Err f ≡ fetched xs n → drop n xs ≡ []
+  fetched_end [] n e = drop-nil n
+  fetched_end (x ∷ xs) zero e = absurd (never (sym e))
+  fetched_end (x ∷ xs) (suc n) e = fetched_end xs n e
+
   pub fetched_some : (xs : List X) (n : ℕ) {f : SourceFault} → n < length xs → Err f ≡ fetched xs n → ⊥
   fetched_some [] n h e = not-suc-le-zero h
   fetched_some (x ∷ xs) zero h e = never (sym e)
@@ -67,6 +89,34 @@ module _ {X : Type 0} where
   fetched_within [] n = sym (le-ltb n 0 (omega arith))
   fetched_within (x ∷ xs) zero = sym (lt-ltb 0 (length (x ∷ xs)) (omega arith))
   fetched_within (x ∷ xs) (suc n) = let rest = fetched_within xs n in grind (arith, nat_tests)
+
+-- two lists side by side are no longer than the first
+module _ {X Y : Type 0} (xs : List X) (ys : List Y) where
+  pub zip_short : length xs ≤ most → length (zip xs ys) ≤ most
+  zip_short h = omega (arith, length-zip xs ys)
+
+  pub zip_below : (n : ℕ) {e : X × Y} → Ok e ≡ fetched (zip xs ys) n → length xs ≤ most → n < most
+  zip_below n e h = omega (arith, fetched_below (zip xs ys) n e, length-zip xs ys)
+
+-- two lists at one place: what stands there in both, or the end of either
+module _ {X Y : Type 0} where
+  pub fetched-zip : (xs : List X) (ys : List Y) (n : ℕ) {x : X} {y : Y} → Ok x ≡ fetched xs n → Ok y ≡ fetched ys n → Ok (x, y) ≡ fetched (zip xs ys) n
+  fetched-zip [] ys n e h = absurd (never e)
+  fetched-zip (x ∷ xs) [] n e h = absurd (never h)
+  fetched-zip (x ∷ xs) (y ∷ ys) zero e h = λ i. Ok (same e i, same h i)
+  fetched-zip (x ∷ xs) (y ∷ ys) (suc n) e h = fetched-zip xs ys n e h
+
+  pub no_first : (xs : List X) (ys : List Y) (n : ℕ) {f : SourceFault} → Err f ≡ fetched xs n → Err f ≡ fetched (zip xs ys) n
+  no_first [] ys n e = ap Err (ended e)
+  no_first (x ∷ xs) [] n e = ap Err (only_end (x ∷ xs) n e)
+  no_first (x ∷ xs) (y ∷ ys) zero e = absurd (never (sym e))
+  no_first (x ∷ xs) (y ∷ ys) (suc n) e = no_first xs ys n e
+
+  pub no_second : (xs : List X) (ys : List Y) (n : ℕ) {f : SourceFault} → Err f ≡ fetched ys n → Err f ≡ fetched (zip xs ys) n
+  no_second [] ys n e = ap Err (only_end ys n e)
+  no_second (x ∷ xs) [] n e = ap Err (ended e)
+  no_second (x ∷ xs) (y ∷ ys) zero e = absurd (never (sym e))
+  no_second (x ∷ xs) (y ∷ ys) (suc n) e = no_second xs ys n e
 
 same_kind : (r : Result Naming SourceFault) → is_ok r ≡ is_ok (name_got r)
 same_kind (Ok n) = refl

@@ -67,11 +67,3 @@ module _ {X : Type 0} (xs ys : List X) where
 
     pub not_in_chained : {x : SourceFault} → Err x ≡ joined_place first second n → Err x ≡ fetched (chained xs ys) n
     not_in_chained e = let w = in_neither e in let past = fetched_past (chained xs ys) n w.0 in cc
-
--- layers over lists of one length are of one length
-module _ {X Y : Type 0} where
-  pub even_cuts : (xs : List X) (ys : List Y) (low high : ℕ) → length xs ≡ length ys → length (cut xs low high) ≡ length (cut ys low high)
-  even_cuts xs ys low high e = length-cut xs low high ∙ ap (λ k. window_count k low high) e ∙ sym (length-cut ys low high)
-
-  pub even_chains : (us vs : List X) (xs ys : List Y) → length us ≡ length xs → length vs ≡ length ys → length (chained us vs) ≡ length (chained xs ys)
-  even_chains us vs xs ys p q = length-chained us vs ∙ (λ i. joined_count (p i) (q i)) ∙ sym (length-chained xs ys)

@@ -1,4 +1,5 @@
 pub mod Fetched
 mod Fronts
+pub mod AllJoined
 pub mod Layers
 pub mod Shelves

@@ -1,41 +1,60 @@
 -- A shelf by its places, and the loop that checks it. Assumes nothing.
-use Rattle.std.proofs.Common.{◌≡◌, ℕ, zero, suc, ◌+◌, ◌<◌, ◌≤◌, List, [], ◌∷◌, map, length, get_or, take, drop, Some, None, Ok, Err, Option, Result, sym, refl, ap, ◌∙◌, ⊎_elim, le_of_suc-le-suc, not-suc-le-zero, arith, length-take}
+use Rattle.std.proofs.Common.{Iter, ◌≡◌, ℕ, zero, suc, ◌+◌, ◌<◌, ◌≤◌, List, [], ◌∷◌, map, length, get_or, take, drop, Some, None, Ok, Err, Option, Result, sym, refl, ap, ◌∙◌, ⊎_elim, le_of_suc-le-suc, not-suc-le-zero, arith, length-take}
 use lib.ListN.{length-map}
+use Rattle.std.specs.List.{enumerate_from, zip}
 use Rattle.std.proofs.lemmas.List.{drop_more, drop_all, get_or-map, get_or-take}
-use Rattle.std.proofs.lemmas.Bool.{cases_lt}
-use Rattle.forms.specs.Checks.{or_else, form_fault, naming_fault}
+use Rattle.std.specs.declared.iter.Enumerate.{Enumerate}
+use Rattle.std.specs.declared.iter.Zip.{Zip}
+use Rattle.std.specs.Iterator.Adapters.{enumerate_source, enumerate_count, enumerate_steps, zip_first, zip_second}
+use Rattle.std.specs.Slice.Iter.{iter_rest}
+use Rattle.std.proofs.iter.Yields.{fronts}
+use Rattle.std.proofs.lemmas.Iterator.{YieldsList, YieldsList-from_slice, YieldsList-from_zip, zips}
+use Rattle.std.proofs.lemmas.Iterator.Consumers.{YieldsList-from_enumerate}
+use Rattle.forms.specs.Checks.{or_else, form_fault, naming_fault, pair_fault}
 use Rattle.forms.specs.Forms.{typed, answered, described}
 use Rattle.forms.specs.Names.{Name, name_of, named}
 use Rattle.forms.specs.declared.fault.RowFault.{RowFault}
 use Rattle.forms.specs.declared.form.Form.{Form}
 use Rattle.forms.specs.declared.row.FormRow.{FormRow}
 use Rattle.forms.specs.declared.row.NamingRow.{NamingRow}
-use Rattle.sources.specs.Shelves.{pair_fault, at_place, refused_from, first_refused, pairs, shelf_answer, check_shelf, shelf_forms, shelf_names}
+use Rattle.sources.specs.Lengths.{shelves_as_long}
+use Rattle.sources.specs.Shelves.{at_place, refused_from, first_refused, pairs, shelf_answer, check_shelf, shelf_forms, shelf_names}
 use Rattle.sources.specs.Sources.{fetched, checked}
 use Rattle.sources.specs.declared.fault.SourceFault.{SourceFault}
 use Rattle.sources.proofs.Fetched.{fetched_get_or}
 
--- the loop: one pair of the two lists more, and their end
-module _ (rs : List FormRow) (ns : List NamingRow) (i : ℕ) (d : FormRow) (e : NamingRow) (h : i < length rs) (k : i < length ns) where
-  step : refused_from i (drop i rs) (drop i ns) ≡ at_place i (pair_fault (get_or rs i d) (get_or ns i e)) (refused_from (i + 1) (drop (i + 1) rs) (drop (i + 1) ns))
-  step = rw (drop_more rs i d h, drop_more ns i e k)
+-- the pairs of two lists, each with its place, from one place on
+abbrev pub left_after : ℕ → List FormRow → List NamingRow → List (ℕ × (FormRow × NamingRow))
+left_after i rs ns = drop i (enumerate_from 0 (zip rs ns))
 
-  pub refused_here : {x : RowFault} → Some x ≡ pair_fault (get_or rs i d) (get_or ns i e) → refused_from i (drop i rs) (drop i ns) ≡ Some (i, x)
-  refused_here p = step ∙ ap (λ o. at_place i o (refused_from (i + 1) (drop (i + 1) rs) (drop (i + 1) ns))) (sym p)
+-- the first of them that is refused
+abbrev pub refused_among : List (ℕ × (FormRow × NamingRow)) → Option (ℕ × RowFault)
+refused_among [] = None
+refused_among (p ∷ ps) = at_place p.0 (pair_fault p.1.0 p.1.1) (refused_among ps)
 
-  pub refused_later : None ≡ pair_fault (get_or rs i d) (get_or ns i e) → refused_from i (drop i rs) (drop i ns) ≡ refused_from (i + 1) (drop (i + 1) rs) (drop (i + 1) ns)
-  refused_later p = step ∙ ap (λ o. at_place i o (refused_from (i + 1) (drop (i + 1) rs) (drop (i + 1) ns))) (sym p)
+pub refused_from_pairs : (i : ℕ) (rs : List FormRow) (ns : List NamingRow) → refused_from i rs ns ≡ refused_among (enumerate_from i (zip rs ns))
+refused_from_pairs i [] ns = refl
+refused_from_pairs i (r ∷ rs) [] = refl
+refused_from_pairs i (r ∷ rs) (n ∷ ns) = ap (at_place i (pair_fault r n)) (refused_from_pairs (i + 1) rs ns)
 
-no_partner : (i : ℕ) (rs : List FormRow) → refused_from i rs [] ≡ None
-no_partner i [] = refl
-no_partner i (r ∷ rs) = refl
+-- the loop's iterator gives the pairs from the first on
+pub pairs_listed : {s : Enumerate (Zip (Iter FormRow) (Iter NamingRow))} (rs : List FormRow) (ns : List NamingRow) → iter_rest (zip_first (enumerate_source s)) ≡ rs → iter_rest (zip_second (enumerate_source s)) ≡ ns → enumerate_count s ≡ 0 → YieldsList (enumerate_steps (zips fronts fronts)) (λ p. (p.0, (p.1.0.now, p.1.1.now))) s (enumerate_from 0 (zip rs ns))
+pairs_listed rs ns first second count =
+    YieldsList-from_enumerate (YieldsList-from_zip (YieldsList-from_slice rs first) (YieldsList-from_slice ns second)) count
 
-pub refused_none : (rs : List FormRow) (ns : List NamingRow) (i : ℕ) → pairs rs ns ≤ i → refused_from i (drop i rs) (drop i ns) ≡ None
-refused_none rs ns i h =
-    ⊎_elim
-    (λ k. rw (drop_all i ns (omega arith)) (no_partner i (drop i rs)))
-    (λ k. rw (drop_all i rs k))
-    (cases_lt i (length rs))
+-- one pair more, and the end
+module _ (ps : List (ℕ × (FormRow × NamingRow))) (n : ℕ) (p : ℕ × (FormRow × NamingRow)) (h : n < length ps) (e : p ≡ get_or ps n p) where
+  step : refused_among (drop n ps) ≡ at_place p.0 (pair_fault p.1.0 p.1.1) (refused_among (drop (n + 1) ps))
+  step = ap refused_among (drop_more ps n p h ∙ ap (λ q. q ∷ drop (n + 1) ps) (sym e))
+
+  pub refused_here : {x : RowFault} → Some x ≡ pair_fault p.1.0 p.1.1 → refused_among (drop n ps) ≡ Some (p.0, x)
+  refused_here q = step ∙ ap (λ o. at_place p.0 o (refused_among (drop (n + 1) ps))) (sym q)
+
+  pub refused_later : None ≡ pair_fault p.1.0 p.1.1 → refused_among (drop n ps) ≡ refused_among (drop (n + 1) ps)
+  refused_later q = step ∙ ap (λ o. at_place p.0 o (refused_among (drop (n + 1) ps))) (sym q)
+
+pub refused_none : (ps : List (ℕ × (FormRow × NamingRow))) (n : ℕ) → n ≡ length ps → refused_among (drop n ps) ≡ None
+refused_none ps n h = ap refused_among (drop_all n ps (omega arith))
 
 -- where no pair is refused, each passes both checks
 none_at : (i : ℕ) (o : Option RowFault) (rest : Option (ℕ × RowFault)) → at_place i o rest ≡ None → (o ≡ None) × (rest ≡ None)
@@ -81,18 +100,11 @@ module _ {X Y : Type 0} (f : X → Y) where
       ∙ ap (λ x. Ok (f x)) (get_or-take k xs n d w.0)
   fetched-checked (Err e) k xs n d h = absurd (not-suc-le-zero h)
 
-even : {X Y : Type 0} (o : Result (Unit {0}) SourceFault) (xs : List X) (ys : List Y) → length xs ≡ length ys → length (checked o xs) ≡ length (checked o ys)
-even (Ok u) xs ys h = h
-even (Err e) xs ys h = refl
-
 one : {X : Type 0} (xs : List X) (n : ℕ) → n < length xs → X
 one [] n h = absurd (not-suc-le-zero h)
 one (x ∷ xs) n h = x
 
 module _ (rs : List FormRow) (ns : List NamingRow) where
-  pub length_shelf : length (shelf_forms rs ns) ≡ length (shelf_names rs ns)
-  length_shelf = even (check_shelf rs ns) _ _ (simp (length-map, length-take) (omega arith))
-
   pub shelf_count : check_shelf rs ns ≡ Ok tt → length (shelf_forms rs ns) ≡ pairs rs ns
   shelf_count e = ap (λ o. length (checked o (map typed (take (pairs rs ns) rs)))) e ∙ simp (length-map, length-take) (omega arith)
 
@@ -127,7 +139,7 @@ module _ (rs : List FormRow) (ns : List NamingRow) where
 
     pub name_here : (e : NamingRow) {m : Name} → Ok m ≡ named (get_or ns n e) → Ok m ≡ fetched (shelf_names rs ns) n
     name_here e p =
-        let l = length_shelf in
+        let l = shelves_as_long rs ns in
         let q = named_shelf e in
         let r = fetched-checked name_of (check_shelf rs ns) (pairs rs ns) ns n e (omega arith) in
         cc

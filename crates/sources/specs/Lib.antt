@@ -1,6 +1,9 @@
 pub mod Faults
 pub mod Sources
 pub mod Places
+pub mod JoinedAll
 pub mod Shelves
+pub mod Shelved
 pub mod Front
-pub mod Short
+pub mod Entries
+pub mod Lengths

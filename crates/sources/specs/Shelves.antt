@@ -1,6 +1,6 @@
 -- What a shelf of rows means: a form's row and a naming's row at each place. Assumes nothing.
 use Rattle.std.specs.Prelude.{ℕ, ◌+◌, min, cond, List, [], ◌∷◌, map, length, take, Some, None, Ok, Err, Option, Result, nat_le}
-use Rattle.forms.specs.Checks.{or_else, form_fault, naming_fault}
+use Rattle.forms.specs.Checks.{pair_fault}
 use Rattle.forms.specs.Forms.{typed}
 use Rattle.forms.specs.Names.{Name, name_of}
 use Rattle.forms.specs.declared.fault.RowFault.{RowFault}
@@ -9,10 +9,6 @@ use Rattle.forms.specs.declared.row.FormRow.{FormRow}
 use Rattle.forms.specs.declared.row.NamingRow.{NamingRow}
 use Rattle.sources.specs.Sources.{most, checked}
 use Rattle.sources.specs.declared.fault.SourceFault.{SourceFault}
-
--- The first check that a pair of rows fails: those of the form, then those of the naming.
-unfoldable pub pair_fault : FormRow → NamingRow → Option RowFault
-pair_fault r n = or_else (form_fault r) (naming_fault n)
 
 -- A fault with its place, or else what comes after.
 abbrev pub at_place : ℕ → Option RowFault → Option (ℕ × RowFault) → Option (ℕ × RowFault)

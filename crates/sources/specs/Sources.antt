@@ -25,9 +25,13 @@ check_window count low high = cond (nat_le low high && nat_le high count) (Ok tt
 abbrev pub cut : {X : Type 0} → List X → ℕ → ℕ → List X
 cut xs low high = checked (check_window (length xs) low high) (take (high - low) (drop low xs))
 
+-- So many entries are no more than a source may have.
+abbrev pub check_total : ℕ → Result (Unit {0}) SourceFault
+check_total n = cond (nat_le n most) (Ok tt) (Err SourceFault.TooManyEntries)
+
 -- Two sources together have no more than one may have.
 abbrev pub check_joined : ℕ → ℕ → Result (Unit {0}) SourceFault
-check_joined m n = cond (nat_le (m + n) most) (Ok tt) (Err SourceFault.TooManyEntries)
+check_joined m n = check_total (m + n)
 
 -- The one list and then the other.
 abbrev pub chained : {X : Type 0} → List X → List X → List X

@@ -1,11 +1,13 @@
 // Why a source is refused, or does not give an entry.
 ghost use Rattle.std.specs.Prelude.{◌≡◌};
-ghost use Rattle.sources.specs.Faults.{number_of};
+ghost use Rattle.sources.specs.Faults.{number_of, text_of};
 ghost use Rattle.sources.specs.declared.fault.SourceFault.TheVariants.{Row};
 
 use forms::fault::RowFault;
+use std::error::Error;
+use std::fmt;
 
-#[derive(Clone, Copy, Debug, PartialEq)]
+#[derive(Clone, Copy, Debug, PartialEq, Eq)]
 pub enum SourceFault {
     /// 1 to 11: a row fails this check.
     Row(RowFault),
@@ -38,3 +40,25 @@ impl SourceFault {
         }
     }
 }
+
+impl SourceFault {
+    /// Why a source is refused, or gives no entry, in words; a row's fault says its own.
+    pub fn reason(self) -> &'static str
+        ensures { result.now ≡ text_of self }
+    {
+        match self {
+            SourceFault::Row(fault) => fault.reason(),
+            SourceFault::WindowBounds => "the window starts after its end or ends above the count",
+            SourceFault::TooManyEntries => "there are more entries than a source may have",
+            SourceFault::NoEntry => "there is no entry with this number",
+        }
+    }
+}
+
+impl fmt::Display for SourceFault {
+    fn fmt<W: fmt::Write>(&self, f: &mut fmt::Formatter<W>) -> fmt::Result {
+        f.write_str(self.reason())
+    }
+}
+
+impl Error for SourceFault {}

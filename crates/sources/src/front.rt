@@ -1,22 +1,34 @@
 // The six pseudo entries that stand before all others: one that is invalid, four that declare data, and the empty one.
-ghost use Rattle.std.specs.Prelude.{◌≡◌, ◌<◌, Ok, codes, slice_index_or};
+ghost use Rattle.std.specs.Prelude.{◌≡◌, ◌+◌, ◌<◌, Ok, codes, refl, slice_index_or};
 ghost use Rattle.forms.specs.Forms.{described, tag_of};
 ghost use Rattle.sources.specs.Front.{pseudo_form, pseudo_name, front_forms, front_names};
-ghost use Rattle.sources.specs.Short.{front_short};
+ghost use Rattle.sources.specs.Lengths.{front_short};
 
 use crate::fault::SourceFault;
 use crate::source::{NamingSource, Source};
+use forms::codes::Tag;
 use forms::description::Description;
 use forms::naming::Naming;
 use forms::row::{FormRow, MemoryRow, NamingRow};
+use kinds::OperandKind;
 
 /// The source of the six.
-#[derive(Clone, Copy)]
+#[derive(Clone, Copy, Debug, PartialEq, Eq)]
 pub struct FrontMatter;
 
-const NO_KIND: u32 = 12;
+const NO_KIND: u32 = OperandKind::Absent as u32;
 
 const NO_MEMORY: MemoryRow = MemoryRow { label: 0, size: 0 };
+
+// The tag and the mnemonic of each, in their order.
+static ENTRIES: [(u32, &[u8]); 6] = [
+    (Tag::Invalid as u32, b"INVALID"),
+    (Tag::DeclareByte as u32, b"DeclareByte"),
+    (Tag::DeclareWord as u32, b"DeclareWord"),
+    (Tag::DeclareDword as u32, b"DeclareDword"),
+    (Tag::DeclareQword as u32, b"DeclareQword"),
+    (Tag::ZeroBytes as u32, b"Zero_bytes"),
+];
 
 // The row of a form with a tag, an opcode of one byte, no operands, and all else 0.
 fn pseudo_row(tag: u32) -> FormRow
@@ -42,17 +54,13 @@ fn pseudo_row(tag: u32) -> FormRow
     }
 }
 
-fn mnemonic(n: u32) -> &'static [u8]
-    ensures { result.now ≡ (slice_index_or front_names n (pseudo_name (codes "Zero_bytes"))).mnemonic }
+// The tag and the mnemonic of an entry.
+fn entry(n: u32) -> (u32, &'static [u8])
+    requires { n < 6 }
+    ensures tag { result.0 ≡ n + 1 }
+    ensures mnemonic { result.1.now ≡ (slice_index_or front_names n (pseudo_name (codes "INVALID"))).mnemonic }
 {
-    match n {
-        0 => b"INVALID",
-        1 => b"DeclareByte",
-        2 => b"DeclareWord",
-        3 => b"DeclareDword",
-        4 => b"DeclareQword",
-        _ => b"Zero_bytes",
-    }
+    ENTRIES[n as usize]
 }
 
 impl Source for FrontMatter {
@@ -61,30 +69,30 @@ impl Source for FrontMatter {
     ghost short = { λ _. front_short };
 
     fn count(&self) -> u32 {
-        6
+        ENTRIES.len() as u32
     }
 
     fn fetch(&self, n: u32) -> Result<Description, SourceFault> {
         if n >= self.count() {
             return Err(SourceFault::NoEntry);
         }
-        Ok(Description::from_row(&pseudo_row(n + 1))?)
+        let (tag, _) = entry(n);
+        Ok(Description::from_row(&pseudo_row(tag))?)
     }
 }
 
 impl NamingSource for FrontMatter {
     ghost names = { λ _. front_names };
 
-    fn naming_count(&self) -> u32 {
-        6
-    }
+    ghost as_long = { λ _. refl };
 
     fn fetch_naming(&self, n: u32) -> Result<Naming, SourceFault> {
-        if n >= self.naming_count() {
+        if n >= self.count() {
             return Err(SourceFault::NoEntry);
         }
+        let (_, mnemonic) = entry(n);
         let row = NamingRow {
-            mnemonic: mnemonic(n),
+            mnemonic,
             option: 0,
             memory: NO_MEMORY,
             broadcast: NO_MEMORY,

@@ -2,7 +2,7 @@
 ghost use Rattle.std.specs.Prelude.{◌≡◌, ◌≤◌, length};
 ghost use Rattle.sources.specs.Places.{joined_count, joined_place};
 ghost use Rattle.sources.specs.Sources.{most, chained, check_joined};
-ghost use Rattle.sources.specs.Short.{chained_short};
+ghost use Rattle.sources.specs.Lengths.{chained_short, chains_as_long};
 
 use crate::fault::SourceFault;
 use crate::source::{MOST, NamingSource, Source};
@@ -10,7 +10,7 @@ use forms::description::Description;
 use forms::naming::Naming;
 
 /// The list of `first`, and then that of `second`.
-#[derive(Drop)]
+#[derive(Clone, Copy, Debug, PartialEq, Eq)]
 pub struct Joined<A, B> {
     pub first: A,
     pub second: B,
@@ -48,17 +48,19 @@ fn total(first: u32, second: u32) -> u32
     }
 }
 
-// Where entry n of the two stands.
-fn place(first: u32, second: u32, n: u32) -> Result<Side, SourceFault>
-    requires { (first ≤ most) × (second ≤ most) }
-    ensures { result ≡ joined_place first second n }
-{
-    if n >= total(first, second) {
-        Err(SourceFault::NoEntry)
-    } else if n < first {
-        Ok(Side::First(n))
-    } else {
-        Ok(Side::Second(n - first))
+impl<A: Source, B: Source> Joined<A, B> {
+    // Where entry n stands.
+    fn place(&self, n: u32) -> Result<Side, SourceFault>
+        ensures { result ≡ joined_place (length (A.Source.list self.now.first)) (length (B.Source.list self.now.second)) n }
+    {
+        let first = self.first.count();
+        if n >= total(first, self.second.count()) {
+            Err(SourceFault::NoEntry)
+        } else if n < first {
+            Ok(Side::First(n))
+        } else {
+            Ok(Side::Second(n - first))
+        }
     }
 }
 
@@ -72,7 +74,7 @@ impl<A: Source, B: Source> Source for Joined<A, B> {
     }
 
     fn fetch(&self, n: u32) -> Result<Description, SourceFault> {
-        match place(self.first.count(), self.second.count(), n)? {
+        match self.place(n)? {
             Side::First(k) => self.first.fetch(k),
             Side::Second(k) => self.second.fetch(k),
         }
@@ -82,12 +84,10 @@ impl<A: Source, B: Source> Source for Joined<A, B> {
 impl<A: NamingSource, B: NamingSource> NamingSource for Joined<A, B> {
     ghost names = { λ j. chained (A.NamingSource.names j.first) (B.NamingSource.names j.second) };
 
-    fn naming_count(&self) -> u32 {
-        total(self.first.naming_count(), self.second.naming_count())
-    }
+    ghost as_long = { λ j. chains_as_long (A.NamingSource.names j.first) (B.NamingSource.names j.second) (A.Source.list j.first) (B.Source.list j.second) (A.NamingSource.as_long j.first) (B.NamingSource.as_long j.second) };
 
     fn fetch_naming(&self, n: u32) -> Result<Naming, SourceFault> {
-        match place(self.first.naming_count(), self.second.naming_count(), n)? {
+        match self.place(n)? {
             Side::First(k) => self.first.fetch_naming(k),
             Side::Second(k) => self.second.fetch_naming(k),
         }

@@ -1,32 +1,23 @@
 // Rows in the caller's memory, as a source.
 ghost use Rattle.std.specs.Prelude.{◌≡◌, length};
-ghost use Rattle.sources.specs.Shelves.{pair_fault, pairs, first_refused, check_shelf, shelf_forms, shelf_names};
-ghost use Rattle.sources.specs.Short.{shelf_short};
+ghost use Rattle.sources.specs.Shelves.{pairs, first_refused, check_shelf, shelf_forms, shelf_names};
+ghost use Rattle.sources.specs.Lengths.{shelf_short, shelves_as_long};
 
 use crate::fault::SourceFault;
 use crate::source::{MOST, NamingSource, Source};
+use forms::check::check_pair;
 use forms::description::Description;
 use forms::fault::RowFault;
 use forms::naming::Naming;
 use forms::row::{FormRow, NamingRow};
 
 /// The rows of forms and those of their names; the two at one place are a pair.
-#[derive(Clone, Copy)]
+#[derive(Clone, Copy, Debug, PartialEq, Eq)]
 pub struct Shelf<'r, 'n, 't> {
     rows: &'r [FormRow],
     namings: &'n [NamingRow<'t>],
     count: u32,
     ghost counted: { count ≡ length (shelf_forms rows.now namings.now) },
-}
-
-// The first check that a pair fails: those of the form, then those of the naming.
-fn pair_fault(row: &FormRow, naming: &NamingRow) -> Option<RowFault>
-    ensures { result ≡ pair_fault row.now naming.now }
-{
-    match row.check() {
-        Some(fault) => Some(fault),
-        None => naming.check(),
-    }
 }
 
 // How many rows have a partner.
@@ -40,9 +31,9 @@ fn pairs(rows: &[FormRow], namings: &[NamingRow]) -> usize
 pub fn first_refused(rows: &[FormRow], namings: &[NamingRow]) -> Option<(usize, RowFault)>
     ensures { result ≡ first_refused rows.now namings.now }
 {
-    for i in 0..pairs(rows, namings) {
-        if let Some(fault) = pair_fault(&rows[i], &namings[i]) {
-            return Some((i, fault));
+    for (place, (row, naming)) in rows.iter().zip(namings).enumerate() {
+        if let Some(fault) = check_pair(row, naming) {
+            return Some((place, fault));
         }
     }
     None
@@ -61,10 +52,14 @@ fn check_shelf(rows: &[FormRow], namings: &[NamingRow]) -> Result<(), SourceFaul
 }
 
 impl<'r, 'n, 't> Shelf<'r, 'n, 't> {
+    ghost use Rattle.std.specs.Prelude.{◌≡◌};
+    ghost use Rattle.sources.specs.Shelves.{check_shelf};
+    ghost use Rattle.sources.specs.Shelved.{rows_of, namings_of};
+
     /// The shelf of the rows, as many as have a partner; one that fails its check has no entries.
     pub fn new(rows: &'r [FormRow], namings: &'n [NamingRow<'t>]) -> Shelf<'r, 'n, 't>
-        ensures rows { result.rows.now ≡ rows.now }
-        ensures namings { result.namings.now ≡ namings.now }
+        ensures rows { rows_of result ≡ rows.now }
+        ensures namings { namings_of result ≡ namings.now }
     {
         let count = match check_shelf(rows, namings) {
             Ok(()) => pairs(rows, namings) as u32,
@@ -79,7 +74,7 @@ impl<'r, 'n, 't> Shelf<'r, 'n, 't> {
 
     /// The first check, of 1 to 11, that the first failing pair of rows fails; then 13 where there are too many.
     pub fn check(&self) -> Result<(), SourceFault>
-        ensures { result ≡ check_shelf self.now.rows.now self.now.namings.now }
+        ensures { result ≡ check_shelf (rows_of self.now) (namings_of self.now) }
     {
         check_shelf(self.rows, self.namings)
     }
@@ -105,9 +100,7 @@ impl Source for Shelf<'_, '_, '_> {
 impl NamingSource for Shelf<'_, '_, '_> {
     ghost names = { λ s. shelf_names s.rows.now s.namings.now };
 
-    fn naming_count(&self) -> u32 {
-        self.count
-    }
+    ghost as_long = { λ s. shelves_as_long s.rows.now s.namings.now };
 
     fn fetch_naming(&self, n: u32) -> Result<Naming, SourceFault> {
         if n >= self.count {

@@ -1,8 +1,9 @@
 // A source is a list of forms that is fetched by number.
-ghost use Rattle.std.specs.Prelude.{◌≡◌, ◌≤◌, List, length, is_ok, nat_lt};
+ghost use Rattle.std.specs.Prelude.{◌≡◌, ◌≤◌, List, length, is_ok, nat_lt, zip};
 ghost use Rattle.forms.specs.Made.{form_got, name_got};
 ghost use Rattle.forms.specs.Names.{Name};
 ghost use Rattle.forms.specs.declared.form.Form.{Form};
+ghost use Rattle.sources.specs.Entries.{entry_got};
 ghost use Rattle.sources.specs.Sources.{fetched, most};
 
 use crate::fault::SourceFault;
@@ -30,13 +31,17 @@ pub trait Source {
 pub trait NamingSource: Source {
     ghost names: { Self → List Name };
 
-    /// The count of both lists.
-    fn naming_count(&self) -> u32
-        ensures named { result ≡ length (names self.now) }
-        ensures listed { result ≡ length (Self.Source.list self.now) };
-
     /// The name of an entry; there is one exactly where there is a form.
     fn fetch_naming(&self, n: u32) -> Result<Naming, SourceFault>
         ensures got { name_got result ≡ fetched (names self.now) n }
         ensures within { is_ok result ≡ nat_lt n (length (Self.Source.list self.now)) };
+
+    /// An entry: its form and its name.
+    final fn entry(&self, n: u32) -> Result<(Description, Naming), SourceFault>
+        ensures { entry_got result ≡ fetched (zip (Self.Source.list self.now) (names self.now)) n }
+    {
+        Ok((self.fetch(n)?, self.fetch_naming(n)?))
+    }
+
+    ghost as_long: { (s : Self) → length (names s) ≡ length (Self.Source.list s) };
 }

@@ -1,8 +1,8 @@
 // Some entries of another source, next to each other.
 ghost use Rattle.std.specs.Prelude.{◌≡◌, length};
-ghost use Rattle.sources.specs.Places.{window_count, window_place};
+ghost use Rattle.sources.specs.Places.{window_place};
 ghost use Rattle.sources.specs.Sources.{cut, check_window};
-ghost use Rattle.sources.specs.Short.{cut_short};
+ghost use Rattle.sources.specs.Lengths.{cut_short, cuts_as_long};
 
 use crate::fault::SourceFault;
 use crate::source::{NamingSource, Source};
@@ -10,7 +10,7 @@ use forms::description::Description;
 use forms::naming::Naming;
 
 /// The entries from `from` up to, without, `to`.
-#[derive(Drop)]
+#[derive(Clone, Copy, Debug, PartialEq, Eq)]
 pub struct Window<S> {
     pub source: S,
     pub from: u32,
@@ -28,25 +28,12 @@ impl<S: Source> Window<S> {
             Err(SourceFault::WindowBounds)
         }
     }
-}
-
-impl<S> Window<S> {
-    // How many entries the window has over a source of so many.
-    fn width(&self, count: u32) -> u32
-        ensures { result ≡ window_count count self.now.from self.now.to }
-    {
-        if self.from <= self.to && self.to <= count {
-            self.to - self.from
-        } else {
-            0
-        }
-    }
 
     // The number below of entry n.
-    fn place(&self, count: u32, n: u32) -> Result<u32, SourceFault>
-        ensures { result ≡ window_place count self.now.from self.now.to n }
+    fn place(&self, n: u32) -> Result<u32, SourceFault>
+        ensures { result ≡ window_place (length (S.Source.list self.now.source)) self.now.from self.now.to n }
     {
-        if n < self.width(count) {
+        if n < self.count() {
             Ok(self.from + n)
         } else {
             Err(SourceFault::NoEntry)
@@ -60,24 +47,23 @@ impl<S: Source> Source for Window<S> {
     ghost short = { λ w. cut_short (S.Source.list w.source) w.from w.to (S.Source.short w.source) };
 
     fn count(&self) -> u32 {
-        self.width(self.source.count())
+        match self.check() {
+            Ok(()) => self.to - self.from,
+            Err(_) => 0,
+        }
     }
 
     fn fetch(&self, n: u32) -> Result<Description, SourceFault> {
-        let place = self.place(self.source.count(), n)?;
-        self.source.fetch(place)
+        self.source.fetch(self.place(n)?)
     }
 }
 
 impl<S: NamingSource> NamingSource for Window<S> {
     ghost names = { λ w. cut (S.NamingSource.names w.source) w.from w.to };
 
-    fn naming_count(&self) -> u32 {
-        self.width(self.source.naming_count())
-    }
+    ghost as_long = { λ w. cuts_as_long (S.NamingSource.names w.source) (S.Source.list w.source) w.from w.to (S.NamingSource.as_long w.source) };
 
     fn fetch_naming(&self, n: u32) -> Result<Naming, SourceFault> {
-        let place = self.place(self.source.naming_count(), n)?;
-        self.source.fetch_naming(place)
+        self.source.fetch_naming(self.place(n)?)
     }
 }

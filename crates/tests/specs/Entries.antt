@@ -1,5 +1,5 @@
 -- How many entries of a naming source are alike. Assumes nothing.
-use Rattle.std.specs.Prelude.{ℕ, ◌+◌, Bool, cond, ◌&&◌, List, [], ◌∷◌, length, ◌==◌}
+use Rattle.std.specs.Prelude.{ℕ, Bool, ◌&&◌, List, length, zip, count_by, ◌==◌}
 use Rattle.forms.specs.Names.{Name}
 use Rattle.forms.specs.declared.form.Form.{Form}
 
@@ -7,7 +7,6 @@ use Rattle.forms.specs.declared.form.Form.{Form}
 abbrev pub is_like : ℕ → ℕ → Form → Name → Bool
 is_like opcode letters f m = f.opcode == opcode && length m.mnemonic == letters
 
+-- How many of the entries, each a form and its name, are so.
 abbrev pub alike : ℕ → ℕ → List Form → List Name → ℕ
-alike opcode letters [] ms = 0
-alike opcode letters (f ∷ fs) [] = 0
-alike opcode letters (f ∷ fs) (m ∷ ms) = cond (is_like opcode letters f m) 1 0 + alike opcode letters fs ms
+alike opcode letters fs ms = count_by (λ e. is_like opcode letters e.0 e.1) (zip fs ms)

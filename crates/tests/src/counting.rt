@@ -9,6 +9,7 @@ ghost use Rattle.tests.specs.Entries.{is_like, alike};
 use forms::description::Description;
 use forms::naming::Naming;
 use forms::row::{FormRow, NamingRow};
+use sources::entries::Entries;
 use sources::front::FrontMatter;
 use sources::joined::Joined;
 use sources::shelf::Shelf;
@@ -25,21 +26,9 @@ fn is_like(description: &Description, naming: &Naming, opcode: u16, letters: usi
 pub fn count_like<S: NamingSource>(source: &S, opcode: u16, letters: usize) -> u32
     ensures { result ≡ alike opcode letters (S.Source.list source.now) (S.NamingSource.names source.now) }
 {
-    let mut found = 0;
-    for n in 0..source.count() {
-        match source.fetch(n) {
-            Ok(description) => match source.fetch_naming(n) {
-                Ok(naming) => {
-                    if is_like(&description, &naming, opcode, letters) {
-                        found += 1;
-                    }
-                }
-                Err(_) => unreachable(),
-            },
-            Err(_) => unreachable(),
-        }
-    }
-    found
+    Entries::of(source)
+        .filter(|(description, naming)| is_like(description, naming, opcode, letters))
+        .count() as u32
 }
 
 /// The same in a window over the front matter and then a shelf.

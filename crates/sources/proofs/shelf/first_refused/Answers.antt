@@ -1,17 +1,30 @@
-use Rattle.std.proofs.Common.{◌+◌, sym, refl, ◌∙◌, arith}
-use Rattle.sources.proofs.Shelves.{refused_here, refused_later, refused_none}
+use Rattle.std.proofs.Common.{◌≡◌, ◌+◌, [], ◌∷◌, length, drop, sym, ap, ◌∙◌, length-append}
+use Rattle.std.specs.List.{enumerate_from, zip}
+use Rattle.std.proofs.lemmas.Iterator.Consumers.{YieldsList-turn, YieldsList-end}
+use Rattle.sources.proofs.Shelves.{refused_among, refused_from_pairs, pairs_listed, refused_here, refused_later, refused_none}
 use Rattle.sources.proofs.shelf.first_refused.Goals as goal
 
-pub loop-i-init : goal.loop-i-init
-loop-i-init c = (refl, refused_none c.args.rows.now c.args.namings.now 0)
+pub loop-place-init : goal.loop-place-init
+loop-place-init c = refused_from_pairs 0 c.args.rows.now c.args.namings.now
 
-pub returns-in-Some : goal.returns-in-Some
-returns-in-Some c =
-    sym
-    (c.loop-i.invariant.0
-    ∙ refused_here c.args.rows.now c.args.namings.now c.loop-i.i _ _ (omega arith) (omega arith) c.in-Some.ensures)
+pub returns-in-Some-check_pair : goal.returns-in-Some-check_pair
+returns-in-Some-check_pair c =
+    let listed = pairs_listed {s = c.into_iter-place-iterator.result} c.args.rows.now c.args.namings.now (cc) (cc) (cc) in
+    let turn = YieldsList-turn listed c.loop-place.yielded _ c.loop-place.yielded_by _ c.next.new.self (c.in-Some.place, (c.in-Some.row, c.in-Some.naming)) c.in-Some.is c.next.ensures.steps in
+    sym (c.loop-place.invariant ∙ refused_here (enumerate_from 0 (zip c.args.rows.now c.args.namings.now)) (length c.loop-place.yielded) _ turn.0 turn.1 c.in-Some-check_pair.ensures)
 
-pub loop-i-preserved : goal.loop-i-preserved
-loop-i-preserved c =
-    let later = c.loop-i.invariant.0 ∙ refused_later c.args.rows.now c.args.namings.now c.loop-i.i _ _ (omega arith) (omega arith) c.in_default.ensures in
-    (later, λ h. later ∙ refused_none c.args.rows.now c.args.namings.now (c.loop-i.i + 1) h)
+pub loop-place-preserved : goal.loop-place-preserved
+loop-place-preserved c =
+    let listed = pairs_listed {s = c.into_iter-place-iterator.result} c.args.rows.now c.args.namings.now (cc) (cc) (cc) in
+    let turn = YieldsList-turn listed c.loop-place.yielded _ c.loop-place.yielded_by _ c.next.new.self (c.in-Some.place, (c.in-Some.row, c.in-Some.naming)) c.in-Some.is c.next.ensures.steps in
+    c.loop-place.invariant
+    ∙ refused_later (enumerate_from 0 (zip c.args.rows.now c.args.namings.now)) (length c.loop-place.yielded) _ turn.0 turn.1 c.in_default.ensures
+    ∙ ap
+    (λ n. refused_among (drop n (enumerate_from 0 (zip c.args.rows.now c.args.namings.now))))
+    (sym (length-append c.loop-place.yielded ((c.in-Some.place, (c.in-Some.row, c.in-Some.naming)) ∷ [])))
+
+pub returns : goal.returns
+returns c =
+    let listed = pairs_listed {s = c.into_iter-place-iterator.result} c.args.rows.now c.args.namings.now (cc) (cc) (cc) in
+    let all = YieldsList-end listed c.loop-place.yielded _ c.loop-place.yielded_by _ c.next.new.self c.in-None.is c.next.ensures.steps in
+    sym (c.loop-place.invariant ∙ refused_none (enumerate_from 0 (zip c.args.rows.now c.args.namings.now)) (length c.loop-place.yielded) all.1)

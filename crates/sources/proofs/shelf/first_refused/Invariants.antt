@@ -1,9 +1,8 @@
-use Rattle.std.proofs.Common.{◌≡◌, ◌≤◌, drop, None}
-use Rattle.sources.specs.Shelves.{pairs, first_refused, refused_from}
+use Rattle.std.proofs.Common.{◌≡◌, length}
+use Rattle.sources.specs.Shelves.{first_refused}
+use Rattle.sources.proofs.Shelves.{refused_among, left_after}
 use Rattle.sources.proofs.shelf.first_refused.Given as goal
 
--- What is left decides, and after the last pair there is none.
-abbrev pub invariant-loop-i : goal.invariant-loop-i
-invariant-loop-i l =
-    (first_refused l.rows l.namings ≡ refused_from l.i (drop l.i l.rows) (drop l.i l.namings))
-    × (pairs l.rows l.namings ≤ l.i → first_refused l.rows l.namings ≡ None)
+-- What is left decides.
+abbrev pub invariant-loop-place : goal.invariant-loop-place
+invariant-loop-place l = first_refused l.rows l.namings ≡ refused_among (left_after (length l.yielded) l.rows l.namings)

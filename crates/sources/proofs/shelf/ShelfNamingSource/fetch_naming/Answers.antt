@@ -1,10 +1,11 @@
 use Rattle.std.proofs.Common.{arith, rules}
+use Rattle.sources.specs.Lengths.{shelves_as_long}
 use Rattle.sources.proofs.Fetched.{fetched_past}
-use Rattle.sources.proofs.Shelves.{length_shelf, shelf_place, name_here, name_passes}
+use Rattle.sources.proofs.Shelves.{shelf_place, name_here, name_passes}
 use Rattle.sources.proofs.shelf.ShelfNamingSource.fetch_naming.Goals as goal
 
 pub returns-then-n-self : goal.returns-then-n-self
-returns-then-n-self c = search (rules, fetched_past, length_shelf)
+returns-then-n-self c = search (rules, fetched_past, shelves_as_long)
 
 pub bounds-self-n : goal.bounds-self-n
 bounds-self-n c = search (rules, shelf_place)

@@ -1,0 +1,10 @@
+use Rattle.std.proofs.Common.{◌≡◌, ◌+◌, ◌≤◌, drop}
+use Rattle.sources.specs.JoinedAll.{entries}
+use Rattle.sources.specs.Sources.{most}
+use Rattle.sources.proofs.joined_all.JoinedAll.total.Given as goal
+
+-- What is counted and what is left give the whole.
+abbrev pub invariant-loop-source : goal.invariant-loop-source
+invariant-loop-source g l =
+    (l.total ≤ most)
+    × (l.total + entries g.S.Source.list (drop l.source-index l.self.sources.now) ≡ entries g.S.Source.list l.self.sources.now)
