@@ -9,14 +9,6 @@ use text::pieces;
 use text::pieces::{Decimal, Piece, Text, When};
 use text::writer::{WriteFault, Writer};
 
-// What is said of the ModRM byte: whether it names memory alone, and its reg and rm fields where they are fixed.
-#[derive(Clone, Copy)]
-struct ModRmInfo {
-    memory: bool,
-    rrr: Option<u8>,
-    bbb: Option<u8>,
-}
-
 fn mod_field(memory: bool) -> Text<'static>
     ensures { result.0.now ≡ mod_text memory }
 {
@@ -40,6 +32,14 @@ impl Piece for Bits {
             Some(n) => w.text(&[b'0' + (n >> 2 & 1), b'0' + (n >> 1 & 1), b'0' + (n & 1)]),
         }
     }
+}
+
+// What is said of the ModRM byte: whether it names memory alone, and its reg and rm fields where they are fixed.
+#[derive(Clone, Copy)]
+struct ModRmInfo {
+    memory: bool,
+    rrr: Option<u8>,
+    bbb: Option<u8>,
 }
 
 impl Piece for ModRmInfo {

@@ -38,7 +38,7 @@ impl Piece for Dotted {
     }
 }
 
-// The prefix byte in hexadecimal, or that there may be none.
+// The prefix byte in hexadecimal, or NP where there may be none.
 pub(crate) fn mandatory_prefix(prefix: Prefix) -> Option<&'static [u8]>
     ensures { option_copied result ≡ prefix_word prefix }
 {
