@@ -1,3 +1,4 @@
 pub mod Plans
 pub mod Numbers
 pub mod Lists
+pub mod Counts

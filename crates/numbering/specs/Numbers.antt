@@ -1,11 +1,20 @@
 -- The number or letter of a register, by its rank, from 0, among the registers of its class that stand before it in the
 -- text, or by its place among the operands. Assumes nothing.
-use Rattle.std.specs.Prelude.{ℕ, ◌+◌, ◌-◌, Bool, cond, Some, None, Option, nat_lt}
+use Rattle.std.specs.Prelude.{ℕ, ◌+◌, ◌-◌, min, Bool, cond, List, Some, None, Option, count_by, nat_lt}
+use Rattle.kinds.specs.Counters.{same}
 use Rattle.kinds.specs.declared.counter.Counter.{Counter}
 use Rattle.kinds.specs.declared.counter.Counter.TheVariants.{Uncounted, Vector, Mask, Tile, Bound, Letter32, Letter64}
 use Rattle.numbering.specs.declared.plan.Plan.{Plan}
 use Rattle.numbering.specs.declared.plan.VectorRule.{VectorRule}
 use Rattle.numbering.specs.declared.plan.VectorRule.TheVariants.{Unnumbered, ByPlace, From1, From2, Swapped}
+
+-- the rank of the next register of a class: how many of that class were named before it
+abbrev pub rank : Counter → List Counter → ℕ
+rank c before = count_by (λ k. same k c) before
+
+-- the rank after this one; a signature has at most five operands and a mask, so at most six registers of a class
+abbrev pub next_rank : ℕ → ℕ
+next_rank rank = min (rank + 1) 6
 
 -- 2, 1, 3, 4, 5: the first two numbers change places
 abbrev pub swapped : ℕ → ℕ

@@ -8,17 +8,15 @@ use forms::codes::NamingOption;
 use forms::description::Description;
 use kinds::{Counter, OperandKind};
 
-// Whether at least two of the kinds move the count on.
+// Whether at least two of the kinds, gone over in their order, move the count on.
 fn several(kinds: &[OperandKind], counter: Counter) -> bool
     ensures { result ≡ several counter kinds.now }
 {
-    let mut n = 0usize;
-    for kind in kinds {
-        if kind.class().counter() == counter {
-            n += 1;
-        }
-    }
-    n >= 2
+    kinds
+        .iter()
+        .filter(|kind| kind.class().counter() == counter)
+        .count()
+        >= 2
 }
 
 fn mask_first(operands: &[OperandKind]) -> bool
@@ -33,31 +31,19 @@ fn mask_first(operands: &[OperandKind]) -> bool
 fn vector_rule(option: NamingOption, first: bool) -> VectorRule
     ensures { result ≡ vector_rule option first }
 {
-    match option {
-        NamingOption::NoVecIndex => VectorRule::Unnumbered,
-        NamingOption::VecIndexSameAsOpIndex => VectorRule::ByPlace,
-        NamingOption::IncVecIndex => if first {
-            VectorRule::ByPlace
-        } else {
-            VectorRule::From2
-        },
-        NamingOption::SwapVecIndex12 => if first {
-            VectorRule::ByPlace
-        } else {
-            VectorRule::Swapped
-        },
-        _ => if first {
-            VectorRule::ByPlace
-        } else {
-            VectorRule::From1
-        },
+    match (option, first) {
+        (NamingOption::NoVecIndex, _) => VectorRule::Unnumbered,
+        (NamingOption::VecIndexSameAsOpIndex, _) | (_, true) => VectorRule::ByPlace,
+        (NamingOption::IncVecIndex, false) => VectorRule::From2,
+        (NamingOption::SwapVecIndex12, false) => VectorRule::Swapped,
+        _ => VectorRule::From1,
     }
 }
 
 fn swaps_masks(option: NamingOption) -> bool
     ensures { result ≡ swaps_masks option }
 {
-    matches!(option, NamingOption::OpMaskIsK1OrNoGprSuffix)
+    option == NamingOption::OpMaskIsK1OrNoGprSuffix
 }
 
 impl Plan {

@@ -1,6 +1,8 @@
-// Which numbers and letters the registers of a signature get: what is decided before the operands are walked. The rules by
-// which a register's rank or place gives its number are definitions here; the signature counts by them.
+// Which numbers and letters the registers of a signature get: what is decided before the operands are walked, and the counts
+// that give each register its rank as they are.
 #![tactic(auto)]
 
 pub mod decide;
+pub mod number;
 pub mod plan;
+pub mod rank;

@@ -26,12 +26,16 @@ use Rattle.forms.specs.declared.codes.MemoryLabel.TheVariants.{
 use Rattle.forms.specs.declared.codes.Tag.{Tag}
 use Rattle.forms.specs.contracts.codes.Tag as tag
 use Rattle.operands.specs.declared.setting.Setting.{Setting}
-use Rattle.operands.specs.declared.setting.Sized.{Sized}
+use Rattle.operands.specs.declared.setting.MemoryBits.{MemoryBits}
 use denote.Enum.Bare.{sameb}
 
 -- the tag is this one
 abbrev pub is_tag : Tag → Tag → Bool
 is_tag t u = sameb tag.the_type t u
+
+-- sgdt and sidt
+abbrev pub is_descriptor_table : Tag → Bool
+is_descriptor_table t = is_tag t Tag.DescriptorTable
 
 -- a size in bits; none is not spelled
 abbrev pub bits_text : ℕ → List ℕ
@@ -78,27 +82,25 @@ fpu_text Fword6 = []
 fpu_text Fword10 = []
 
 -- what follows the `m` of a memory
-abbrev pub size_text : Setting → Sized → List ℕ
+abbrev pub size_text : Setting → MemoryBits → List ℕ
 size_text s m =
     cond (is_tag s.tag Tag.TwoByte) (codes "2byte")
-    (label_text (is_tag s.tag Tag.DescriptorTable) m.label m.bits ++ when s.flags.fpu (fpu_text m.label))
+    (label_text (is_descriptor_table s.tag) m.label m.bits ++ when s.flags.fpu (fpu_text m.label))
 
 -- the memory, and its broadcast element if it has one
 abbrev pub memory_text : Setting → List ℕ
 memory_text s =
     codes "m" ++ (size_text s s.memory ++ when s.flags.broadcast (codes "/m" ++ (size_text s s.element ++ codes "bcst")))
 
-abbrev pub width_text : Width → List ℕ
-width_text W8 = codes "8"
-width_text W16 = codes "16"
-width_text W32 = codes "32"
-width_text W64 = codes "64"
-
 abbrev pub width_bits : Width → ℕ
 width_bits W8 = 8
 width_bits W16 = 16
 width_bits W32 = 32
 width_bits W64 = 64
+
+-- a width is spelled in bits
+abbrev pub width_text : Width → List ℕ
+width_text w = decimal_text (width_bits w)
 
 -- a general register or memory; the width is spelled where the memory has another
 abbrev pub gpr_mem_text : Setting → Width → List ℕ

@@ -1,5 +1,6 @@
 -- How one operand is spelled, by its class and the number or letter right after its register's name. Assumes nothing.
-use Rattle.std.specs.Prelude.{ℕ, cond, List, [], ◌∷◌, ◌++◌, Some, None, codes, Option}
+use Rattle.std.specs.Prelude.{ℕ, cond, List, [], ◌∷◌, ◌++◌, codes, Option}
+use Rattle.std.specs.Option.{option_map_or}
 use Rattle.text.specs.Texts.{decimal_text}
 use Rattle.kinds.specs.declared.table.Bank.{Bank}
 use Rattle.kinds.specs.declared.table.Bank.TheVariants.{Mm, Xmm, Ymm, Zmm}
@@ -88,13 +89,11 @@ register_text Rax = codes "RAX"
 
 -- the number, if the register has one
 abbrev pub number_text : Option ℕ → List ℕ
-number_text None = []
-number_text (Some n) = decimal_text n
+number_text label = option_map_or decimal_text label []
 
 -- the letter, if the register has one
 abbrev pub letter_text : Option ℕ → List ℕ
-letter_text None = []
-letter_text (Some b) = b ∷ []
+letter_text label = option_map_or (λ b. b ∷ []) label []
 
 abbrev pub operand_text : Setting → Class → Option ℕ → List ℕ
 operand_text s class.Missing l = []

@@ -7,4 +7,4 @@ mod operand;
 mod setting;
 
 pub use operand::Operand;
-pub use setting::{Setting, Sized};
+pub use setting::{MemoryBits, Setting};

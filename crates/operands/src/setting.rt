@@ -5,7 +5,7 @@ use numbering::plan::Plan;
 
 /// A memory's label, and its size in bits.
 #[derive(Clone, Copy)]
-pub struct Sized {
+pub struct MemoryBits {
     pub label: MemoryLabel,
     pub bits: u32,
 }
@@ -16,8 +16,8 @@ pub struct Sized {
 pub struct Setting {
     pub tag: Tag,
     pub flags: Flags,
-    pub memory: Sized,
-    pub element: Sized,
+    pub memory: MemoryBits,
+    pub element: MemoryBits,
     pub last: usize,
     pub plan: Plan,
 }

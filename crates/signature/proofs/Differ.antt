@@ -1,5 +1,5 @@
 -- The numbers of a signature differ and its letters run, for every form and name. Assumes nothing.
-use Rattle.std.proofs.Common.{◌≡◌, ℕ, ◌+◌, Bool, true, false, cond, not, ◌&&◌, ltb, List, [], ◌∷◌, ◌++◌, length, Some, None, Option, refl, ap, ◌∙◌, subst, add-zero, arith, rules}
+use Rattle.std.proofs.Common.{◌≡◌, ℕ, ◌+◌, Bool, true, false, cond, not, ◌&&◌, ltb, List, [], ◌∷◌, ◌++◌, length, Some, None, Option, ◌≢◌, refl, ap, ◌∙◌, subst, add-zero, arith, rules}
 use mathlib.Core.Path.{subst⁻¹}
 use Rattle.std.proofs.lemmas.Bool.{cond_both}
 use Rattle.std.proofs.lemmas.List.Sums.{sum_by-cons, sum_by-append, sum_by_push}
@@ -12,7 +12,7 @@ use Rattle.forms.specs.Names.{Name}
 use Rattle.forms.specs.declared.codes.NamingOption.{NamingOption}
 use Rattle.forms.specs.declared.form.Form.{Form}
 use Rattle.numbering.specs.Lists.{Distinct, Runs}
-use Rattle.numbering.specs.Numbers.{swapped, mask_number, vector_number, letter, label_of}
+use Rattle.numbering.specs.Numbers.{swapped, mask_number, vector_number, letter, label_of, rank}
 use Rattle.numbering.specs.Plans.{counter_at, vector_rule, mask_first}
 use Rattle.numbering.specs.declared.plan.Plan.{Plan}
 use Rattle.numbering.specs.declared.plan.VectorRule.{VectorRule}
@@ -21,8 +21,8 @@ use Rattle.numbering.proofs.Apart.{Rises, distinct, lower, rises, plus_one, plus
 use Rattle.operands.specs.declared.setting.Setting.{Setting}
 use Rattle.signature.specs.Pieces.{Piece, pseudo, mnemonic, space, comma, mask, zeroing, sae, rounding, implied}
 use Rattle.signature.specs.Settings.{setting_of, start_of, walked}
-use Rattle.signature.specs.Signature.{is_pseudo, signature, labelled, labels, printed, NumbersDiffer}
-use Rattle.signature.specs.Walk.{given, rank, masked_at, last_at, names, turn, walk}
+use Rattle.signature.specs.Signature.{is_pseudo, instruction, signature, labelled, labels, printed, NumbersDiffer}
+use Rattle.signature.specs.Walk.{given, masked_at, last_at, names, operand_pieces, walk}
 
 module _ (g : ℕ → Option ℕ) where
   -- one more element, where the test passes
@@ -38,29 +38,33 @@ same_yes : (k c : Counter) → same k c ≡ true → k ≡ c
 same_yes k c e = search rules
 
 -- a class of registers that are counted
-module _ (c : Counter) (h : c ≡ Counter.Uncounted → ⊥) where
+module _ (c : Counter) (h : c ≢ Counter.Uncounted) where
   other : same Counter.Uncounted c ≡ false
   other = search rules
 
   passed_over : (p : Piece) (ps : List Piece) → (labelled p).0 ≡ Counter.Uncounted → labels c (p ∷ ps) ≡ labels c ps
   passed_over p ps is = ap (λ k. cond (same k c) ((labelled p).1 ∷ labels c ps) (labels c ps)) is ∙ ap (λ b. cond b ((labelled p).1 ∷ labels c ps) (labels c ps)) other
 
-  given_over : (b : Bool) (p : Piece) (ps : List Piece) → (labelled p).0 ≡ Counter.Uncounted → labels c (given b p ps) ≡ labels c ps
-  given_over true p ps is = passed_over p ps is
-  given_over false p ps is = refl
+  given_over : (b : Bool) (p : Piece) (ps rest : List Piece) → (labelled p).0 ≡ Counter.Uncounted → labels c (given b p ps ++ rest) ≡ labels c (ps ++ rest)
+  given_over true p ps rest is = passed_over p (ps ++ rest) is
+  given_over false p ps rest is = refl
 
-  given_mask : (b : Bool) (n : ℕ) (ps : List Piece) → labels c (given b (mask n) ps) ≡ cond (b && same Counter.Mask c) (Some n ∷ labels c ps) (labels c ps)
-  given_mask true n ps = refl
-  given_mask false n ps = refl
+  given_mask : (b : Bool) (n : ℕ) (ps rest : List Piece) → labels c (given b (mask n) ps ++ rest) ≡ cond (b && same Counter.Mask c) (Some n ∷ labels c (ps ++ rest)) (labels c (ps ++ rest))
+  given_mask true n ps rest = refl
+  given_mask false n ps rest = refl
 
-  labels-turn : (s : Setting) (l : Option ℕ) (n : ℕ) (follows : Bool) (place : ℕ) (k : OperandKind) (rest : List Piece) → let more = cond (masked_at s place && same Counter.Mask c) (Some n ∷ labels c rest) (labels c rest) in
-      labels c (turn s l n follows place k rest) ≡ cond (same (counter_at k) c) (l ∷ more) more
-  labels-turn s l n follows place k rest =
-      given_over follows comma _ refl
+  given_space : (b : Bool) (ps : List Piece) → labels c (given b space ps) ≡ labels c ps
+  given_space true ps = passed_over space ps refl
+  given_space false ps = refl
+
+  labels-operand : (s : Setting) (l : Option ℕ) (n : ℕ) (follows : Bool) (place : ℕ) (k : OperandKind) (rest : List Piece) → let more = cond (masked_at s place && same Counter.Mask c) (Some n ∷ labels c rest) (labels c rest) in
+      labels c (operand_pieces s l n follows place k ++ rest) ≡ cond (same (counter_at k) c) (l ∷ more) more
+  labels-operand s l n follows place k rest =
+      given_over follows comma _ rest refl
       ∙ ap (λ ls. cond (same (counter_at k) c) (l ∷ ls) ls)
-      (given_mask (masked_at s place) n _
+      (given_mask (masked_at s place) n _ rest
       ∙ ap (λ ls. cond (masked_at s place && same Counter.Mask c) (Some n ∷ ls) ls)
-      (given_over (masked_at s place && s.flags.zeroing) zeroing _ refl ∙ given_over (last_at s place && s.flags.sae) sae _ refl ∙ given_over (last_at s place && s.flags.rounding) rounding rest refl))
+      (given_over (masked_at s place && s.flags.zeroing) zeroing _ rest refl ∙ given_over (last_at s place && s.flags.sae) sae _ rest refl ∙ given_over (last_at s place && s.flags.rounding) rounding [] rest refl))
 
   mask_rank : (b : Bool) → rank c (cond b (Counter.Mask ∷ []) []) ≡ cond (b && same Counter.Mask c) 1 0
   mask_rank true = omega arith
@@ -86,7 +90,7 @@ module _ (c : Counter) (h : c ≡ Counter.Uncounted → ⊥) where
       → Runs g (rank c before) (labels c (walk s before follows place ks))
   runs s g is before follows place [] = subst⁻¹ (λ (ls : List (Option ℕ)). Runs g (rank c before) ls) (passed_over (implied s.tag) [] refl) tt
   runs s g is before follows place (k ∷ ks) =
-      subst⁻¹ (λ (ls : List (Option ℕ)). Runs g (rank c before) ls) (labels-turn s _ _ follows place k (walk s (before ++ names s place k) (not (is_seg_rdi k)) (place + 1) ks))
+      subst⁻¹ (λ (ls : List (Option ℕ)). Runs g (rank c before) ls) (labels-operand s _ _ follows place k (walk s (before ++ names s place k) (not (is_seg_rdi k)) (place + 1) ks))
       (run_more g (rank c before) (rank c before + cond (same (counter_at k) c) 1 0) _ _ (same (counter_at k) c) refl
       (λ e. ap (λ x. label_of s.plan x (rank x before) place) (same_yes (counter_at k) c e) ∙ is (rank c before) place)
       (run_more g (rank c before + cond (same (counter_at k) c) 1 0) (rank c (before ++ names s place k)) _ _ (masked_at s place && same Counter.Mask c) (ranked_on s place k before)
@@ -97,7 +101,7 @@ module _ (c : Counter) (h : c ≡ Counter.Uncounted → ⊥) where
 abbrev place_number : ℕ → Option ℕ
 place_number p = Some (p + 1)
 
-no_uncounted : Counter.Vector ≡ Counter.Uncounted → ⊥
+no_uncounted : Counter.Vector ≢ Counter.Uncounted
 no_uncounted e = search rules
 
 no_mask : (b : Bool) → (b && same Counter.Mask Counter.Vector) ≡ false
@@ -110,13 +114,13 @@ by_place s is before follows place [] = tt
 by_place s is before follows place (k ∷ ks) =
     let rest = walk s (before ++ names s place k) (not (is_seg_rdi k)) (place + 1) ks in
     let more = by_place s is (before ++ names s place k) (not (is_seg_rdi k)) (place + 1) ks in
-    subst⁻¹ (λ (ls : List (Option ℕ)). Rises place_number place ls) (labels-turn Counter.Vector no_uncounted s _ _ follows place k rest)
+    subst⁻¹ (λ (ls : List (Option ℕ)). Rises place_number place ls) (labels-operand Counter.Vector no_uncounted s _ _ follows place k rest)
     (rise_more place_number place _ _ (same (counter_at k) Counter.Vector)
     (λ e. ap (λ x. label_of s.plan x (rank x before) place) (same_yes (counter_at k) Counter.Vector e) ∙ is (rank Counter.Vector before) place)
     (subst⁻¹ (λ b. Rises place_number (place + 1) (cond b (Some (mask_number s.plan.swaps (rank Counter.Mask (before ++ (counter_at k ∷ [])))) ∷ labels Counter.Vector rest) (labels Counter.Vector rest))) (no_mask (masked_at s place)) more))
 
 -- what a class that goes by rank gets in a whole walk
-by_rank : (s : Setting) (c : Counter) (g : ℕ → Option ℕ) → (c ≡ Counter.Uncounted → ⊥) → ((r p : ℕ) → label_of s.plan c r p ≡ g r) → ((i j : ℕ) → g i ≡ g j → i ≡ j)
+by_rank : (s : Setting) (c : Counter) (g : ℕ → Option ℕ) → c ≢ Counter.Uncounted → ((r p : ℕ) → label_of s.plan c r p ≡ g r) → ((i j : ℕ) → g i ≡ g j → i ≡ j)
     → (place : ℕ) (ks : List OperandKind) → Distinct (labels c (walk s [] false place ks))
 by_rank s c g h is one place ks = distinct g one 0 _ (rises g 0 _ (runs c h s g is [] false place ks))
 
@@ -145,11 +149,11 @@ letters_run false ls r = printed_none 0 0 ls r
 
 module _ (f : Form) (n : Name) where
   -- what holds of nothing and of the walk holds of the whole signature
-  in_whole : (c : Counter) → (c ≡ Counter.Uncounted → ⊥) → (P : List (Option ℕ) → Type 0) → P [] → P (labels c (walk (setting_of f n) [] false (start_of n.option) (walked f n.option))) → P (labels c (signature f n))
+  in_whole : (c : Counter) → c ≢ Counter.Uncounted → (P : List (Option ℕ) → Type 0) → P [] → P (labels c (walk (setting_of f n) [] false (start_of n.option) (walked f n.option))) → P (labels c (signature f n))
   in_whole c h P none all =
-      cond_both (is_pseudo f.tag) (pseudo f.tag ∷ []) (mnemonic n.mnemonic ∷ given (ltb 0 (length (walked f n.option))) space (walk (setting_of f n) [] false (start_of n.option) (walked f n.option))) (λ ps. P (labels c ps))
+      cond_both (is_pseudo f.tag) (pseudo f.tag ∷ []) (instruction f n) (λ ps. P (labels c ps))
       (λ _. subst⁻¹ P (passed_over c h (pseudo f.tag) [] refl) none)
-      (λ _. subst⁻¹ P (passed_over c h (mnemonic n.mnemonic) _ refl ∙ given_over c h (ltb 0 (length (walked f n.option))) space _ refl) all)
+      (λ _. subst⁻¹ P (passed_over c h (mnemonic n.mnemonic) _ refl ∙ given_space c h (ltb 0 (length (walked f n.option))) _) all)
 
   pub numbers_differ : NumbersDiffer f n
   numbers_differ =

@@ -1,6 +1,6 @@
 -- How long the parts of a signature are: none has a line's end, and all of them together have at most 256 bytes.
 -- Assumes nothing.
-use Rattle.std.proofs.Common.{◌≡◌, ℕ, ◌+◌, ◌<◌, Bool, true, false, cond, not, eqb, [], ◌++◌, Some, None, codes, Option, refl, arith}
+use Rattle.std.proofs.Common.{◌≡◌, ℕ, ◌+◌, ◌<◌, Bool, true, false, cond, not, eqb, [], ◌++◌, Some, None, codes, Option, refl, arith, rules}
 use mathlib.Core.Path.{subst⁻¹}
 use Rattle.std.proofs.lemmas.Bool.Decides.{nat_tests}
 use Rattle.text.specs.Sized.{Line}
@@ -10,15 +10,12 @@ use Rattle.kinds.specs.Counters.{counter_of}
 use Rattle.kinds.specs.declared.counter.Counter.{Counter}
 use Rattle.kinds.specs.declared.counter.Counter.TheVariants as counter
 use Rattle.kinds.specs.declared.table.Bank.{Bank}
-use Rattle.kinds.specs.declared.table.Bank.TheVariants.{Mm, Xmm, Ymm, Zmm}
 use Rattle.kinds.specs.declared.table.Class.{Class}
 use Rattle.kinds.specs.declared.table.Class.TheVariants as class
 use Rattle.kinds.specs.declared.table.Register.{Register}
-use Rattle.kinds.specs.declared.table.Register.TheVariants.{Es, Cs, Ss, Ds, Fs, Gs, Al, Cl, Ax, Dx, Eax, Rax}
 use Rattle.kinds.specs.declared.table.Width.{Width}
 use Rattle.kinds.specs.declared.table.Width.TheVariants.{W8, W16, W32, W64}
 use Rattle.kinds.specs.declared.table.Word.{Word}
-use Rattle.kinds.specs.declared.table.Word.TheVariants as word
 use Rattle.forms.specs.declared.codes.MemoryLabel.{MemoryLabel}
 use Rattle.forms.specs.declared.codes.MemoryLabel.TheVariants as label
 use Rattle.forms.specs.declared.codes.Tag.{Tag}
@@ -26,10 +23,10 @@ use Rattle.numbering.specs.Numbers.{swapped, mask_number, vector_number, letter,
 use Rattle.numbering.specs.declared.plan.Plan.{Plan}
 use Rattle.numbering.specs.declared.plan.VectorRule.{VectorRule}
 use Rattle.numbering.specs.declared.plan.VectorRule.TheVariants.{Unnumbered, ByPlace, From1, From2, Swapped}
-use Rattle.operands.specs.Memories.{is_tag, bits_text, label_text, fpu_text, size_text, memory_text, width_text, width_bits}
+use Rattle.operands.specs.Memories.{is_tag, is_descriptor_table, bits_text, label_text, fpu_text, size_text, memory_text, width_text, width_bits}
 use Rattle.operands.specs.Operands.{bank_text, word_text, register_text, number_text, letter_text, operand_text}
 use Rattle.operands.specs.declared.setting.Setting.{Setting}
-use Rattle.operands.specs.declared.setting.Sized.{Sized}
+use Rattle.operands.specs.declared.setting.MemoryBits.{MemoryBits}
 
 nothing : Line 0 []
 nothing = Line_lit 0 [] refl
@@ -65,9 +62,9 @@ pub record Sizes (s : Setting) : Type 0 where
   pub memory : s.memory.bits < 10000
   pub element : s.element.bits < 10000
 
-Line-size_text : (s : Setting) (m : Sized) → m.bits < 10000 → Line 7 (size_text s m)
+Line-size_text : (s : Setting) (m : MemoryBits) → m.bits < 10000 → Line 7 (size_text s m)
 Line-size_text s m h =
-    Line-cond (is_tag s.tag Tag.TwoByte) (Line_lit 7 (codes "2byte") refl) (Line-label_text (is_tag s.tag Tag.DescriptorTable) m.label m.bits s.flags.fpu h)
+    Line-cond (is_tag s.tag Tag.TwoByte) (Line_lit 7 (codes "2byte") refl) (Line-label_text (is_descriptor_table s.tag) m.label m.bits s.flags.fpu h)
 
 Line-memory_text : (s : Setting) → Sizes s → Line 21 (memory_text s)
 Line-memory_text s h =
@@ -76,57 +73,16 @@ Line-memory_text s h =
     (Line-when s.flags.broadcast (Line-append (Line_lit 2 (codes "/m") refl) (Line-append (Line-size_text s s.element h.element) (Line_lit 4 (codes "bcst") refl)))))
 
 Line-width_text : (w : Width) → Line 2 (width_text w)
-Line-width_text W8 = Line_lit 2 (codes "8") refl
-Line-width_text W16 = Line_lit 2 (codes "16") refl
-Line-width_text W32 = Line_lit 2 (codes "32") refl
-Line-width_text W64 = Line_lit 2 (codes "64") refl
+Line-width_text w = small_number (width_bits w) (search rules)
 
 Line-bank_text : (b : Bank) → Line 3 (bank_text b)
-Line-bank_text Mm = Line_lit 3 (codes "mm") refl
-Line-bank_text Xmm = Line_lit 3 (codes "xmm") refl
-Line-bank_text Ymm = Line_lit 3 (codes "ymm") refl
-Line-bank_text Zmm = Line_lit 3 (codes "zmm") refl
+Line-bank_text b = Line_lit 3 (bank_text b) (search rules)
 
 Line-word_text : (w : Word) → Line 8 (word_text w)
-Line-word_text word.Ptr1616 = Line_lit 8 (codes "ptr16:16") refl
-Line-word_text word.Ptr1632 = Line_lit 8 (codes "ptr16:32") refl
-Line-word_text word.Mib = Line_lit 8 (codes "mib") refl
-Line-word_text word.Vm32x = Line_lit 8 (codes "vm32x") refl
-Line-word_text word.Vm64x = Line_lit 8 (codes "vm64x") refl
-Line-word_text word.Vm32y = Line_lit 8 (codes "vm32y") refl
-Line-word_text word.Vm64y = Line_lit 8 (codes "vm64y") refl
-Line-word_text word.Vm32z = Line_lit 8 (codes "vm32z") refl
-Line-word_text word.Vm64z = Line_lit 8 (codes "vm64z") refl
-Line-word_text word.Sreg = Line_lit 8 (codes "Sreg") refl
-Line-word_text word.Cr = Line_lit 8 (codes "cr") refl
-Line-word_text word.Dr = Line_lit 8 (codes "dr") refl
-Line-word_text word.Tr = Line_lit 8 (codes "tr") refl
-Line-word_text word.Imm4 = Line_lit 8 (codes "imm4") refl
-Line-word_text word.Imm8 = Line_lit 8 (codes "imm8") refl
-Line-word_text word.One = Line_lit 8 (codes "1") refl
-Line-word_text word.Imm16 = Line_lit 8 (codes "imm16") refl
-Line-word_text word.Imm32 = Line_lit 8 (codes "imm32") refl
-Line-word_text word.Imm64 = Line_lit 8 (codes "imm64") refl
-Line-word_text word.Rel8 = Line_lit 8 (codes "rel8") refl
-Line-word_text word.Rel16 = Line_lit 8 (codes "rel16") refl
-Line-word_text word.Rel32 = Line_lit 8 (codes "rel32") refl
-Line-word_text word.Disp16 = Line_lit 8 (codes "disp16") refl
-Line-word_text word.Disp32 = Line_lit 8 (codes "disp32") refl
-Line-word_text word.Sibmem = Line_lit 8 (codes "sibmem") refl
+Line-word_text w = Line_lit 8 (word_text w) (search rules)
 
 Line-register_text : (r : Register) → Line 3 (register_text r)
-Line-register_text Es = Line_lit 3 (codes "ES") refl
-Line-register_text Cs = Line_lit 3 (codes "CS") refl
-Line-register_text Ss = Line_lit 3 (codes "SS") refl
-Line-register_text Ds = Line_lit 3 (codes "DS") refl
-Line-register_text Fs = Line_lit 3 (codes "FS") refl
-Line-register_text Gs = Line_lit 3 (codes "GS") refl
-Line-register_text Al = Line_lit 3 (codes "AL") refl
-Line-register_text Cl = Line_lit 3 (codes "CL") refl
-Line-register_text Ax = Line_lit 3 (codes "AX") refl
-Line-register_text Dx = Line_lit 3 (codes "DX") refl
-Line-register_text Eax = Line_lit 3 (codes "EAX") refl
-Line-register_text Rax = Line_lit 3 (codes "RAX") refl
+Line-register_text r = Line_lit 3 (register_text r) (search rules)
 
 -- a label of a class is short: a letter has one byte, a number at most two
 abbrev pub Short : Counter → Option ℕ → Type 0

@@ -1,7 +1,6 @@
-mod Differ
-mod Lengths
-mod Ranks
-mod Turns
-mod WalkLengths
-mod Walks
-mod Wholes
+pub mod OperandTexts
+pub mod Walks
+pub mod Wholes
+pub mod Lengths
+pub mod WalkLengths
+pub mod Differ

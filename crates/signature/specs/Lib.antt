@@ -1,4 +1,3 @@
-pub mod Counts
 pub mod Masks
 pub mod Pieces
 pub mod Settings

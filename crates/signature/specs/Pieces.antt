@@ -1,8 +1,10 @@
 -- What a signature is made of, in the order of its text, and how each piece is spelled. Assumes nothing.
-use Rattle.std.specs.Prelude.{ℕ, List, [], Some, codes, Option}
+use Rattle.std.specs.Prelude.{ℕ, List, [], codes, Option}
+use Rattle.std.specs.Option.{unwrap_or}
 use Rattle.std.specs.List.{flat_map}
 use Rattle.text.specs.Texts.{upper_text}
 use Rattle.kinds.specs.declared.table.Class.{Class}
+use Rattle.forms.specs.Pseudo.{pseudo_text}
 use Rattle.forms.specs.declared.codes.Tag.{Tag}
 use Rattle.forms.specs.declared.codes.Tag.TheVariants.{
   Plain,
@@ -45,26 +47,11 @@ pub data Piece : Type 0 where
   -- the operands that a form's tag implies
   implied : Tag → Piece
 
--- the entries that are no instructions; the other tags have no such text
-abbrev pub pseudo_text : Tag → List ℕ
-pseudo_text Plain = []
-pseudo_text Invalid = codes "<invalid>"
-pseudo_text DeclareByte = codes "<db>"
-pseudo_text DeclareWord = codes "<dw>"
-pseudo_text DeclareDword = codes "<dd>"
-pseudo_text DeclareQword = codes "<dq>"
-pseudo_text ZeroBytes = codes "ZERO_BYTES"
-pseudo_text TwoByte = []
-pseudo_text DescriptorTable = []
-pseudo_text BareSt = []
-pseudo_text ImpliedEdxEax = []
-pseudo_text ImpliedXmm0 = []
-pseudo_text ImpliedXmm0To7 = []
-pseudo_text ImpliedEaxXmm0 = []
-pseudo_text ImpliedXmm0To2And4To6 = []
-pseudo_text ImpliedXmm0To6 = []
-pseudo_text ImpliedEax = []
+-- the text of an entry that is no instruction; the other tags have none
+abbrev pub own_text : Tag → Option (List ℕ)
+own_text t = pseudo_text (codes "ZERO_BYTES") t
 
+-- the operands that a form's tag implies
 abbrev pub implied_text : Tag → List ℕ
 implied_text Plain = []
 implied_text Invalid = []
@@ -85,12 +72,12 @@ implied_text ImpliedXmm0To6 = codes ", <XMM0-6>"
 implied_text ImpliedEax = codes ", <EAX>"
 
 abbrev pub spelling : Setting → Piece → List ℕ
-spelling s (pseudo t) = pseudo_text t
+spelling s (pseudo t) = unwrap_or (own_text t) []
 spelling s (mnemonic t) = upper_text t
 spelling s space = codes " "
 spelling s comma = codes ", "
 spelling s (operand c l) = operand_text s c l
-spelling s (mask n) = mask_text (Some n)
+spelling s (mask n) = mask_text n
 spelling s zeroing = codes "{z}"
 spelling s sae = codes "{sae}"
 spelling s rounding = codes "{er}"

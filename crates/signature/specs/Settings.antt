@@ -1,10 +1,10 @@
 -- What a form and its name give to the signature. Assumes nothing.
 use Rattle.std.specs.Prelude.{ℕ, ◌-◌, ◌*◌, Bool, true, false, cond, not, ◌&&◌, List, [], length, drop, nat_lt, slice_index_or}
+use Rattle.std.specs.List.{list_any}
 use Rattle.kinds.specs.Kinds.{is_imm8, hides_all}
 use Rattle.kinds.specs.declared.kind.OperandKind.{OperandKind}
 use Rattle.forms.specs.Forms.{counted}
 use Rattle.forms.specs.Names.{Name}
-use Rattle.forms.specs.Operands.{any}
 use Rattle.forms.specs.declared.codes.Encoding.{Encoding}
 use Rattle.forms.specs.declared.codes.Encoding.TheVariants.{Legacy, Vex, Evex, Xop, D3now}
 use Rattle.forms.specs.declared.codes.NamingOption.{NamingOption}
@@ -21,7 +21,7 @@ use Rattle.forms.specs.declared.form.Form.{Form}
 use Rattle.forms.specs.declared.form.Memory.{Memory}
 use Rattle.numbering.specs.Plans.{plan_of}
 use Rattle.operands.specs.declared.setting.Setting.{Setting}
-use Rattle.operands.specs.declared.setting.Sized.{Sized}
+use Rattle.operands.specs.declared.setting.MemoryBits.{MemoryBits}
 
 abbrev pub is_legacy : Encoding → Bool
 is_legacy Legacy = true
@@ -41,7 +41,7 @@ last_of f =
     cond (not (is_legacy f.encoding) && ends_in_imm8 (counted f)) (length (counted f) - 1) (length (counted f))
 
 -- a memory with its size in bits
-abbrev pub in_bits : Memory → Sized
+abbrev pub in_bits : Memory → MemoryBits
 in_bits m = record { label = m.label; bits = m.size * 8 }
 
 abbrev pub setting_of : Form → Name → Setting
@@ -67,4 +67,4 @@ start_of VecIndexSameAsOpIndex = 0
 
 -- the operands that are walked: none beside an operand of a string instruction or of xlat
 abbrev pub walked : Form → NamingOption → List OperandKind
-walked f option = cond (any hides_all (counted f)) [] (drop (start_of option) (counted f))
+walked f option = cond (list_any hides_all (counted f)) [] (drop (start_of option) (counted f))

@@ -1,62 +1,30 @@
 -- The signature of a form under a name. Assumes nothing.
-use Rattle.std.specs.Prelude.{ℕ, ◌+◌, Bool, true, false, cond, List, [], ◌∷◌, length, Some, None, Option, ◌≢◌, nat_lt}
+use Rattle.std.specs.Prelude.{ℕ, ◌+◌, Bool, false, cond, List, [], ◌∷◌, length, Some, None, Option, ◌≢◌, nat_lt}
+use Rattle.std.specs.Option.{is_some}
 use Rattle.kinds.specs.Counters.{counter_of, same}
 use Rattle.kinds.specs.declared.counter.Counter.{Counter}
 use Rattle.forms.specs.Names.{Name}
 use Rattle.forms.specs.declared.codes.NamingOption.{NamingOption}
 use Rattle.forms.specs.declared.codes.Tag.{Tag}
-use Rattle.forms.specs.declared.codes.Tag.TheVariants.{
-  Plain,
-  Invalid,
-  DeclareByte,
-  DeclareWord,
-  DeclareDword,
-  DeclareQword,
-  ZeroBytes,
-  TwoByte,
-  DescriptorTable,
-  BareSt,
-  ImpliedEdxEax,
-  ImpliedXmm0,
-  ImpliedXmm0To7,
-  ImpliedEaxXmm0,
-  ImpliedXmm0To2And4To6,
-  ImpliedXmm0To6,
-  ImpliedEax,
-}
 use Rattle.forms.specs.declared.form.Form.{Form}
 use Rattle.numbering.specs.Lists.{Distinct, Runs}
-use Rattle.signature.specs.Pieces.{Piece, pseudo, mnemonic, space, comma, operand, mask, zeroing, sae, rounding, implied, spelled}
+use Rattle.signature.specs.Pieces.{Piece, pseudo, mnemonic, space, comma, operand, mask, zeroing, sae, rounding, implied, own_text, spelled}
 use Rattle.signature.specs.Settings.{setting_of, start_of, walked}
 use Rattle.signature.specs.Walk.{given, walk}
 
 -- the entry is no instruction
 abbrev pub is_pseudo : Tag → Bool
-is_pseudo Plain = false
-is_pseudo Invalid = true
-is_pseudo DeclareByte = true
-is_pseudo DeclareWord = true
-is_pseudo DeclareDword = true
-is_pseudo DeclareQword = true
-is_pseudo ZeroBytes = true
-is_pseudo TwoByte = false
-is_pseudo DescriptorTable = false
-is_pseudo BareSt = false
-is_pseudo ImpliedEdxEax = false
-is_pseudo ImpliedXmm0 = false
-is_pseudo ImpliedXmm0To7 = false
-is_pseudo ImpliedEaxXmm0 = false
-is_pseudo ImpliedXmm0To2And4To6 = false
-is_pseudo ImpliedXmm0To6 = false
-is_pseudo ImpliedEax = false
+is_pseudo t = is_some (own_text t)
 
 -- the mnemonic, a space if an operand is walked, and the operands
-abbrev pub signature : Form → Name → List Piece
-signature f n =
-    cond (is_pseudo f.tag) (pseudo f.tag ∷ [])
-    (mnemonic n.mnemonic
+abbrev pub instruction : Form → Name → List Piece
+instruction f n =
+    mnemonic n.mnemonic
     ∷ given (nat_lt 0 (length (walked f n.option))) space
-    (walk (setting_of f n) [] false (start_of n.option) (walked f n.option)))
+    (walk (setting_of f n) [] false (start_of n.option) (walked f n.option))
+
+abbrev pub signature : Form → Name → List Piece
+signature f n = cond (is_pseudo f.tag) (pseudo f.tag ∷ []) (instruction f n)
 
 abbrev pub signature_text : Form → Name → List ℕ
 signature_text f n = spelled (setting_of f n) (signature f n)

@@ -1,11 +1,12 @@
 -- The operands of a signature, walked in their order. Assumes nothing.
-use Rattle.std.specs.Prelude.{ℕ, ◌+◌, Bool, cond, not, ◌&&◌, List, [], ◌∷◌, ◌++◌, count_by, Option, ◌==◌}
-use Rattle.kinds.specs.Counters.{same}
+use Rattle.std.specs.Prelude.{ℕ, ◌+◌, Bool, cond, not, ◌&&◌, List, [], ◌∷◌, ◌++◌, Option, ◌==◌}
 use Rattle.kinds.specs.Kinds.{is_seg_rdi}
 use Rattle.kinds.specs.Rows.{class_of}
 use Rattle.kinds.specs.declared.counter.Counter.{Counter}
 use Rattle.kinds.specs.declared.kind.OperandKind.{OperandKind}
-use Rattle.numbering.specs.Numbers.{label_of, mask_number}
+use Rattle.numbering.specs.Counts.{moved_on, next_label, next_mask}
+use Rattle.numbering.specs.declared.number.Numbering.{Numbering}
+use Rattle.numbering.specs.Numbers.{label_of, mask_number, rank}
 use Rattle.numbering.specs.Plans.{counter_at}
 use Rattle.operands.specs.declared.setting.Setting.{Setting}
 use Rattle.signature.specs.Pieces.{Piece, comma, operand, mask, zeroing, sae, rounding, implied}
@@ -13,10 +14,6 @@ use Rattle.signature.specs.Pieces.{Piece, comma, operand, mask, zeroing, sae, ro
 -- the element where the flag is set, and then the others
 abbrev pub given : {X : Type 0} → Bool → X → List X → List X
 given b x xs = cond b (x ∷ xs) xs
-
--- the rank of the next register of a class: how many of that class were named before it
-abbrev pub rank : Counter → List Counter → ℕ
-rank c before = count_by (λ k. same k c) before
 
 -- the mask follows operand 0
 abbrev pub masked_at : Setting → ℕ → Bool
@@ -27,14 +24,19 @@ abbrev pub last_at : Setting → ℕ → Bool
 last_at s place = place + 1 == s.last
 
 -- what one operand adds: the comma if an operand was printed before it, itself, and what follows it
-abbrev pub turn : Setting → Option ℕ → ℕ → Bool → ℕ → OperandKind → List Piece → List Piece
-turn s label number follows place k rest =
+abbrev pub operand_pieces : Setting → Option ℕ → ℕ → Bool → ℕ → OperandKind → List Piece
+operand_pieces s label number follows place k =
     given follows comma
     (operand (class_of k) label
     ∷ given (masked_at s place) (mask number)
     (given (masked_at s place && s.flags.zeroing) zeroing
     (given (last_at s place && s.flags.sae) sae
-    (given (last_at s place && s.flags.rounding) rounding rest))))
+    (given (last_at s place && s.flags.rounding) rounding []))))
+
+-- what the next operand adds, where the registers before it left this numbering
+abbrev pub next_pieces : Setting → Numbering → Bool → ℕ → OperandKind → List Piece
+next_pieces s n follows place k =
+    operand_pieces s (next_label n (counter_at k) place) (next_mask (moved_on (counter_at k) n)) follows place k
 
 -- the registers that an operand names: its own, and after operand 0 the mask
 abbrev pub names : Setting → ℕ → OperandKind → List Counter
@@ -45,8 +47,8 @@ names s place k = counter_at k ∷ cond (masked_at s place) (Counter.Mask ∷ []
 abbrev pub walk : Setting → List Counter → Bool → ℕ → List OperandKind → List Piece
 walk s before follows place [] = implied s.tag ∷ []
 walk s before follows place (k ∷ ks) =
-    turn s
+    operand_pieces s
     (label_of s.plan (counter_at k) (rank (counter_at k) before) place)
     (mask_number s.plan.swaps (rank Counter.Mask (before ++ (counter_at k ∷ []))))
     follows place k
-    (walk s (before ++ names s place k) (not (is_seg_rdi k)) (place + 1) ks)
+    ++ walk s (before ++ names s place k) (not (is_seg_rdi k)) (place + 1) ks

@@ -1,11 +1,9 @@
 // The signature of a form: its mnemonic and its operands, with the numbers and letters that tell its registers apart.
 #![tactic(auto)]
 
-mod counts;
-mod number;
+mod operand;
 mod print;
-mod setting_of;
-mod turn;
+mod setting;
 mod walk;
 
-pub use print::print_signature;
+pub use print::{SignatureText, print_signature};

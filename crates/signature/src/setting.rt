@@ -1,9 +1,9 @@
 // What a description and a naming give to the signature.
 ghost use Rattle.std.specs.Prelude.{◌≡◌, ◌≤◌};
-ghost use Rattle.forms.specs.Made.{form_in, name_in};
-ghost use Rattle.forms.specs.Operands.{any};
+ghost use Rattle.std.specs.List.{list_any};
 ghost use Rattle.kinds.specs.Kinds.{hides_all};
-ghost use Rattle.signature.specs.Settings.{is_legacy, ends_in_imm8, last_of, in_bits, setting_of, start_of, walked};
+ghost use Rattle.forms.specs.Made.{form_in, name_in};
+ghost use Rattle.signature.specs.Settings.{ends_in_imm8, last_of, in_bits, setting_of, start_of, walked};
 
 use forms::codes::{Encoding, NamingOption};
 use forms::description::Description;
@@ -11,18 +11,12 @@ use forms::form::Memory;
 use forms::naming::Naming;
 use kinds::OperandKind;
 use numbering::plan::Plan;
-use operands::{Setting, Sized};
-
-fn is_legacy(encoding: Encoding) -> bool
-    ensures { result ≡ is_legacy encoding }
-{
-    matches!(encoding, Encoding::Legacy)
-}
+use operands::{MemoryBits, Setting};
 
 fn ends_in_imm8(operands: &[OperandKind]) -> bool
     ensures { result ≡ ends_in_imm8 operands.now }
 {
-    operands.len() > 0 && operands[operands.len() - 1].is_imm8()
+    operands.last().is_some_and(|kind| kind.is_imm8())
 }
 
 // How many operands stand before {sae} and {er}.
@@ -30,18 +24,18 @@ fn last_of(description: &Description) -> usize
     ensures { result ≡ last_of (form_in description.now) }
 {
     let operands = description.operands();
-    if !is_legacy(description.form().encoding) && ends_in_imm8(operands) {
+    if description.form().encoding != Encoding::Legacy && ends_in_imm8(operands) {
         operands.len() - 1
     } else {
         operands.len()
     }
 }
 
-fn in_bits(memory: Memory) -> Sized
+fn in_bits(memory: Memory) -> MemoryBits
     requires { memory.size ≤ 512 }
     ensures { result ≡ in_bits memory }
 {
-    Sized {
+    MemoryBits {
         label: memory.label,
         bits: memory.size * 8,
     }
@@ -63,8 +57,7 @@ pub(crate) fn setting_of(description: &Description, naming: &Naming) -> Setting
 
 // The first place that is walked.
 pub(crate) fn start_of(option: NamingOption) -> usize
-    ensures value { result ≡ start_of option }
-    ensures near { result ≤ 1 }
+    ensures { result ≡ start_of option }
 {
     match option {
         NamingOption::SkipOp0 => 1,
@@ -73,14 +66,9 @@ pub(crate) fn start_of(option: NamingOption) -> usize
 }
 
 fn hides_all(operands: &[OperandKind]) -> bool
-    ensures { result ≡ any hides_all operands.now }
+    ensures { result ≡ list_any hides_all operands.now }
 {
-    for kind in operands {
-        if kind.hides_all() {
-            return true;
-        }
-    }
-    false
+    operands.iter().any(|kind| kind.hides_all())
 }
 
 // The operands that are walked.
@@ -89,8 +77,8 @@ pub(crate) fn walked<'a>(description: &'a Description, option: NamingOption) -> 
 {
     let operands = description.operands();
     if hides_all(operands) {
-        return &operands[0..0];
+        &[]
+    } else {
+        &operands[start_of(option).min(operands.len())..]
     }
-    let (_, rest) = operands.split_at(start_of(option).min(operands.len()));
-    rest
 }
