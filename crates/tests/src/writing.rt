@@ -5,7 +5,7 @@ mod tests {
     use std::fmt::Debug;
     use std::test::Fail;
     use text::pieces;
-    use text::pieces::{Byte, Decimal, Each, Hex, Piece, Text, Upper, When};
+    use text::pieces::{Byte, Decimal, Hex, Piece, Text, Upper, When};
     use text::render::render;
     use text::writer::WriteFault;
 
@@ -52,7 +52,7 @@ mod tests {
                 &mut out,
                 pieces!(
                     Byte(b'<'),
-                    Each(&[Hex(0x1F), Hex(0x20)]),
+                    [Hex(0x1F), Hex(0x20)].as_slice(),
                     Some(Byte(b'+')),
                     None::<Byte>,
                     When(true, Text(b"y")),

@@ -40,10 +40,6 @@ pub struct Upper<'a>(pub &'a [u8]);
 #[derive(Debug, PartialEq, Eq, Drop)]
 pub struct When<P>(pub bool, pub P);
 
-/// The pieces of a slice, one after another.
-#[derive(Debug, PartialEq, Eq, Drop)]
-pub struct Each<'a, P>(pub &'a [P]);
-
 /// Pieces, one after another.
 #[macro_export]
 macro_rules! pieces {
@@ -129,11 +125,12 @@ fn print_both<A: Piece, B: Piece>(w: &mut Writer, a: A, b: B) -> Result<(), Writ
     b.print(w)
 }
 
-impl<P: Piece + Copy> Piece for Each<'_, P> {
-    ghost spelled = { λ x. flat_map P.Piece.spelled x.0.now };
+/// The pieces of a slice, one after another.
+impl<P: Piece + Copy> Piece for &[P] {
+    ghost spelled = { λ x. flat_map P.Piece.spelled x.now };
 
     fn print(self, w: &mut Writer) -> Result<(), WriteFault> {
-        print_each(w, self.0)
+        print_each(w, self)
     }
 }
 
