@@ -24,7 +24,7 @@ impl Model for Rank {
 }
 
 impl Rank {
-    /// The rank of one that so many stand before.
+    /// The rank of one that so many stand before; it stops at six.
     pub fn after(before: usize) -> Rank
         ensures { result ≡ min before 6 }
     {

@@ -1,6 +1,6 @@
+pub mod Differ
+pub mod Lengths
 pub mod OperandTexts
+pub mod WalkLengths
 pub mod Walks
 pub mod Wholes
-pub mod Lengths
-pub mod WalkLengths
-pub mod Differ
