@@ -1,4 +1,4 @@
--- What `fetched` gives of lists that are cut and joined.
+-- What `fetched` gives of lists that are cut, joined and put side by side. Assumes nothing.
 use Rattle.std.proofs.Common.{◌≡◌, ℕ, zero, suc, ◌+◌, ◌<◌, ◌≤◌, ltb, List, [], ◌∷◌, ◌++◌, length, get_or, take, drop, is_ok, Ok, Err, Result, sym, refl, ap, ◌∙◌, le_of_suc-le-suc, not-suc-le-zero, suc-add, zero-add, arith}
 use Rattle.std.specs.List.{zip}
 use Rattle.std.proofs.Math.Seq.{drop-nil}
@@ -58,12 +58,6 @@ module _ {X : Type 0} where
   fetched_right [] ys n = ap (fetched ys) (zero-add n)
   fetched_right (x ∷ xs) ys n = ap (fetched (x ∷ (xs ++ ys))) (suc-add (length xs) n) ∙ fetched_right xs ys n
 
-  -- for a loop over the places: one entry more, and no fault below the length
-  pub fetched_more : (xs : List X) (n : ℕ) {x : X} → Ok x ≡ fetched xs n → take (n + 1) xs ≡ take n xs ++ x ∷ []
-  fetched_more [] n e = absurd (never e)
-  fetched_more (y ∷ ys) zero e = ap (λ z. z ∷ []) (sym (same e))
-  fetched_more (y ∷ ys) (suc n) e = ap (λ k. take k (y ∷ ys)) (suc-add n 1) ∙ ap (λ l. y ∷ l) (fetched_more ys n e)
-
   -- for a loop that says what is left: this entry, and then the rest
   pub fetched_rest : (xs : List X) (n : ℕ) {x : X} → Ok x ≡ fetched xs n → drop n xs ≡ x ∷ drop (n + 1) xs
   fetched_rest [] n e = absurd (never e)
@@ -100,11 +94,11 @@ module _ {X Y : Type 0} (xs : List X) (ys : List Y) where
 
 -- two lists at one place: what stands there in both, or the end of either
 module _ {X Y : Type 0} where
-  pub fetched-zip : (xs : List X) (ys : List Y) (n : ℕ) {x : X} {y : Y} → Ok x ≡ fetched xs n → Ok y ≡ fetched ys n → Ok (x, y) ≡ fetched (zip xs ys) n
-  fetched-zip [] ys n e h = absurd (never e)
-  fetched-zip (x ∷ xs) [] n e h = absurd (never h)
-  fetched-zip (x ∷ xs) (y ∷ ys) zero e h = λ i. Ok (same e i, same h i)
-  fetched-zip (x ∷ xs) (y ∷ ys) (suc n) e h = fetched-zip xs ys n e h
+  pub zip_at : (xs : List X) (ys : List Y) (n : ℕ) {x : X} {y : Y} → Ok x ≡ fetched xs n → Ok y ≡ fetched ys n → Ok (x, y) ≡ fetched (zip xs ys) n
+  zip_at [] ys n e h = absurd (never e)
+  zip_at (x ∷ xs) [] n e h = absurd (never h)
+  zip_at (x ∷ xs) (y ∷ ys) zero e h = λ i. Ok (same e i, same h i)
+  zip_at (x ∷ xs) (y ∷ ys) (suc n) e h = zip_at xs ys n e h
 
   pub no_first : (xs : List X) (ys : List Y) (n : ℕ) {f : SourceFault} → Err f ≡ fetched xs n → Err f ≡ fetched (zip xs ys) n
   no_first [] ys n e = ap Err (ended e)

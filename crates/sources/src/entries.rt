@@ -28,6 +28,7 @@ impl<'a, S: NamingSource> Model for Entries<'a, S> {
 
 impl<'a, S: NamingSource> Entries<'a, S> {
     /// The entries of a source, in their order.
+    #[tactic(auto, using(crate::proofs::Fetched::zip_short))]
     pub fn of(source: &'a S) -> Entries<'a, S>
         ensures all { result ≡ zip (S.Source.list source.now) (S.NamingSource.names source.now) }
         ensures short { length result ≤ most }

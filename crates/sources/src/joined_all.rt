@@ -46,7 +46,7 @@ impl<'a, S: Source> JoinedAll<'a, S> {
         Ok(total)
     }
 
-    // Where entry n stands.
+    // Where entry n stands. The number that is left goes down from source to source, which no search by a test says.
     fn place(&self, n: u32) -> Result<Place<'a, S>, SourceFault>
         ensures { result_map_both (λ p. (p.source.now, p.entry)) (λ f. f) result ≡ place_of S.Source.list self.now.sources.now n }
     {

@@ -11,7 +11,8 @@ use forms::fault::RowFault;
 use forms::naming::Naming;
 use forms::row::{FormRow, NamingRow};
 
-/// The rows of forms and those of their names; the two at one place are a pair.
+/// The rows of forms and those of their names; the two at one place are a pair. Two slices, since the caller's lists may
+/// differ in length.
 #[derive(Clone, Copy, Debug, PartialEq, Eq)]
 pub struct Shelf<'r, 'n, 't> {
     rows: &'r [FormRow],

@@ -9,7 +9,7 @@ use crate::source::{NamingSource, Source};
 use forms::description::Description;
 use forms::naming::Naming;
 
-/// The entries from `from` up to, without, `to`.
+/// The entries from `from` up to, without, `to`. Two numbers and no range: a window may be made that starts after its end.
 #[derive(Clone, Copy, Debug, PartialEq, Eq)]
 pub struct Window<S> {
     pub source: S,

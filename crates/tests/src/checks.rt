@@ -30,10 +30,9 @@ mod tests {
 
     // The number of the first check that the row fails, or 0.
     fn number(row: FormRow) -> u32 {
-        match Description::from_row(&row) {
-            Ok(_) => 0,
-            Err(fault) => fault.number(),
-        }
+        Description::from_row(&row)
+            .err()
+            .map_or(0, |fault| fault.number())
     }
 
     fn opcode(opcode: u16, bytes: u32) -> u32 {

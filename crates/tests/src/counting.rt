@@ -61,6 +61,7 @@ mod tests {
     use forms::fault::RowFault;
     use forms::row::MemoryRow;
     use sources::fault::SourceFault;
+    use sources::joined_all::JoinedAll;
     use sources::shelf::first_refused;
     use std::process::Abort;
     use std::test::Fail;
@@ -118,37 +119,30 @@ mod tests {
 
     // The number of a refusal, or 0.
     fn number(answer: Result<(), SourceFault>) -> u32 {
-        match answer {
-            Ok(()) => 0,
-            Err(fault) => fault.number(),
-        }
+        answer.err().map_or(0, |fault| fault.number())
     }
 
-    fn opcode_at<S: Source>(source: &S, n: u32) -> Result<u16, u32> {
-        match source.fetch(n) {
-            Ok(description) => Ok(description.form().opcode),
-            Err(fault) => Err(fault.number()),
-        }
+    // The opcode of an entry, and how many letters its mnemonic has.
+    fn shown_of((description, naming): &(Description, Naming)) -> (u16, usize) {
+        (description.form().opcode, naming.mnemonic().len())
     }
 
-    fn letters_at<S: NamingSource>(source: &S, n: u32) -> Result<usize, u32> {
-        match source.fetch_naming(n) {
-            Ok(naming) => Ok(naming.mnemonic().len()),
-            Err(fault) => Err(fault.number()),
-        }
+    fn shown_at<S: NamingSource>(source: &S, n: u32) -> Result<(u16, usize), SourceFault> {
+        Ok(shown_of(&source.entry(n)?))
     }
 
     // The entry has this opcode, and a mnemonic of so many letters.
     fn stands<S: NamingSource>(rt: &impl Abort, source: &S, n: u32, opcode: u16, letters: usize) {
-        assert_eq!(rt; opcode_at(source, n), Ok(opcode));
-        assert_eq!(rt; letters_at(source, n), Ok(letters));
+        assert_eq!(rt; shown_at(source, n), Ok((opcode, letters)));
     }
 
     // The source has so many entries, and refuses the one after them with 14.
     fn ends<S: NamingSource>(rt: &impl Abort, source: &S, count: u32) {
         assert_eq!(rt; source.count(), count);
-        assert_eq!(rt; opcode_at(source, count), Err(14));
-        assert_eq!(rt; letters_at(source, count), Err(14));
+        assert_eq!(rt; source.fetch(count), Err(SourceFault::NoEntry));
+        assert_eq!(rt; source.fetch_naming(count), Err(SourceFault::NoEntry));
+        assert_eq!(rt; shown_at(source, count), Err(SourceFault::NoEntry));
+        assert_eq!(rt; SourceFault::NoEntry.number(), 14);
     }
 
     #[test]
@@ -239,6 +233,79 @@ mod tests {
     }
 
     #[test]
+    fn several_sources_are_one_after_another(rt: HostRuntime) {
+        let rows = five_rows();
+        let names = five_names();
+        let shelves = [
+            Shelf::new(&rows[0..2], &names[0..2]),
+            Shelf::new(&rows[0..0], &names[0..0]),
+            Shelf::new(&rows[2..5], &names[2..5]),
+        ];
+        let all = JoinedAll { sources: &shelves };
+        assert_eq!(rt; all.check(), Ok(()));
+        stands(&rt, &all, 0, 0xf4, 3);
+        stands(&rt, &all, 1, 0xf1, 4);
+        stands(&rt, &all, 2, 0xa2, 5);
+        stands(&rt, &all, 4, 0x05, 7);
+        ends(&rt, &all, 5);
+        assert_eq!(rt;
+            (count_like(&all, 0xf1, 4), count_like(&all, 0xa2, 5)),
+            (1, 1)
+        );
+        let none = JoinedAll {
+            sources: &shelves[0..0],
+        };
+        assert_eq!(rt; none.check(), Ok(()));
+        ends(&rt, &none, 0);
+    }
+
+    #[test]
+    fn entries_come_in_their_order(rt: HostRuntime) {
+        let rows = five_rows();
+        let names = five_names();
+        let shelf = Shelf::new(&rows, &names);
+        let part = Window {
+            source: &shelf,
+            from: 1,
+            to: 4,
+        };
+        let mut entries = Entries::of(&part);
+        for shown in [(0xf1, 4), (0xa2, 5), (0x09, 6)] {
+            assert_eq!(rt; entries.next().map(|entry| shown_of(&entry)), Some(shown));
+        }
+        assert_eq!(rt; entries.next(), None);
+        for entry in Entries::of(&part) {
+            assert!(rt; shown_of(&entry) != (0xf4, 3));
+        }
+    }
+
+    #[test]
+    fn a_refusal_says_why(rt: HostRuntime) -> Result<(), Fail> {
+        let heap = rt.alloc();
+        let faults = [
+            (SourceFault::Row(RowFault::Mvex), "2: the encoding is MVEX"),
+            (
+                SourceFault::WindowBounds,
+                "12: the window starts after its end or ends above the count",
+            ),
+            (
+                SourceFault::TooManyEntries,
+                "13: there are more entries than a source may have",
+            ),
+            (
+                SourceFault::NoEntry,
+                "14: there is no entry with this number",
+            ),
+        ];
+        for (fault, text) in faults {
+            let number = fault.number();
+            let said = format!(in heap; "{number}: {fault}")?;
+            assert_eq!(rt; said.as_str(), text);
+        }
+        Ok(())
+    }
+
+    #[test]
     fn an_archive_begins_with_the_front_matter(rt: HostRuntime) {
         let rows = five_rows();
         let names = five_names();
@@ -308,6 +375,10 @@ mod tests {
         };
         assert_eq!(rt; number(most.check()), 0);
         ends(&rt, &most, 65536);
+        let both = [full, one];
+        let over_all = JoinedAll { sources: &both };
+        assert_eq!(rt; number(over_all.check()), 13);
+        ends(&rt, &over_all, 0);
         rows[65536].tag = 17;
         assert_eq!(rt; number(Shelf::new(&rows, &names).check()), 1);
         Ok(())

@@ -1,5 +1,4 @@
-use Rattle.std.proofs.Common.{◌≡◌, ◌<◌, length, zip, sym, ap, ◌∙◌, arith}
-use Rattle.std.specs.Iterator.{MakesProgress}
+use Rattle.std.proofs.Common.{length, zip, sym, ap, ◌∙◌, arith}
 use Rattle.sources.proofs.Fetched.{zip_below, fetched_rest, fetched_end}
 use Rattle.sources.proofs.entries.EntriesIterator.next.Goals as goal
 
