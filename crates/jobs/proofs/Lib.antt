@@ -1,1 +1,4 @@
-pub mod Splits
+mod Cuts
+mod FiveKinds
+pub mod ManyFields
+pub mod TextsIn

@@ -3,7 +3,14 @@ use forms::row::{FormRow, NamingRow};
 
 pub mod read;
 
-#[derive(Drop)]
+/// Which part of an archive is opened: with the front matter or without it, from one entry up to another or whole.
+#[derive(Clone, Copy, Debug, Default, PartialEq, Eq)]
+pub struct Opening {
+    pub front: bool,
+    pub window: Option<(u32, u32)>,
+}
+
+#[derive(Clone, Copy, Debug, PartialEq, Eq)]
 pub enum Command<'a> {
     /// A blank line, or one that begins with `#`.
     Nothing,
@@ -15,11 +22,8 @@ pub enum Command<'a> {
     Texts,
     /// Rows from here on belong to a segment of this name.
     Segment(&'a [u8]),
-    /// The archive of the segments, after the front matter or without it, whole or from one entry up to another.
-    Open {
-        front: bool,
-        window: Option<(u32, u32)>,
-    },
+    /// The archive of the segments.
+    Open(Opening),
     /// The two texts of each entry of the archive.
     Entries,
     /// None of these.

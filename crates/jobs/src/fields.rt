@@ -1,50 +1,40 @@
 // A text cut at a byte: the fields of a line, the numbers of a list.
-ghost use Rattle.std.specs.Prelude.{◌≡◌, ◌+◌, [], ◌∷◌, length};
-ghost use Rattle.std.specs.Str.{bytes_eq};
-ghost use Rattle.jobs.specs.Fields.{part_of, split, split_rest};
+ghost use Rattle.std.specs.Prelude.{◌≡◌, ◌+◌, [], ◌∷◌, ◌==◌, length, position};
+ghost use Rattle.std.specs.Option.{option_map};
+ghost use Rattle.jobs.specs.Fields.{split, split_rest, split_up_to, texts_in};
+
+use arrayvec::ArrayVec;
+
+fn place_of(at: u8, text: &[u8]) -> Option<usize>
+    ensures { result ≡ position (λ b. b == at) text.now }
+{
+    text.iter().position(|b| *b == at)
+}
 
 /// The text up to the first byte `at`, and what follows that byte, if it is there.
-pub fn cut<'a>(t: &'a [u8], at: u8) -> (&'a [u8], Option<&'a [u8]>)
-    ensures { split at t.now ≡ result.0.now ∷ split_rest at result.1 }
+pub fn cut<'a>(text: &'a [u8], at: u8) -> (&'a [u8], Option<&'a [u8]>)
+    ensures { split at text.now ≡ result.0.now ∷ split_rest at result.1 }
 {
-    for (i, b) in t.iter().enumerate() {
-        if *b == at {
-            return (&t[0..i], Some(&t[i + 1..]));
-        }
-    }
-    (t, None)
-}
-
-// The stretch between two bytes `at` that has number `k`, from 0; empty past the last.
-pub(crate) fn part<'a>(t: &'a [u8], at: u8, k: usize) -> &'a [u8]
-    ensures { result.now ≡ part_of at t.now k }
-{
-    let (first, rest) = cut(t, at);
-    if k == 0 {
-        return first;
-    }
-    match rest {
-        Some(rest) => part(rest, at, k - 1),
-        None => b"",
+    match place_of(at, text) {
+        Some(place) => (&text[..place], Some(&text[place + 1..])),
+        None => (text, None),
     }
 }
 
-// How many bytes are `at`: one less than there are stretches between them.
-pub(crate) fn separators(t: &[u8], at: u8) -> usize
-    ensures { result + 1 ≡ length (split at t.now) }
+// The stretches between the bytes `at`, if there are at most `MOST`.
+#[tactic(auto, using(std::proofs::lemmas::Grind::common_steps))]
+pub(crate) fn stretches<'a, const MOST: usize>(
+    text: &'a [u8],
+    at: u8,
+) -> Option<ArrayVec<&'a [u8], MOST>>
+    ensures { option_map (λ v. texts_in v.items) result ≡ split_up_to MOST at text.now }
 {
-    let mut n = 0;
-    for b in t {
-        if *b == at {
-            n += 1;
-        }
+    let mut found = ArrayVec::new();
+    let mut rest = Some(text);
+    while let Some(left) = rest {
+        let (stretch, after) = cut(left, at);
+        found.try_push(stretch).ok()?;
+        rest = after;
     }
-    n
-}
-
-// Whether the text is the word.
-pub(crate) fn is(t: &[u8], word: &[u8]) -> bool
-    ensures { result ≡ bytes_eq t.now word.now }
-{
-    t == word
+    Some(found)
 }

@@ -1,102 +1,92 @@
 // A row's line, read field by field.
-ghost use Rattle.std.specs.Prelude.{◌≡◌, ◌+◌, ◌<◌, [], length};
+ghost use Rattle.std.specs.Prelude.{◌≡◌, ◌≤◌, length};
 ghost use Rattle.std.specs.Option.{option_map};
-ghost use Rattle.text.specs.Numbers.{hex_of};
-ghost use Rattle.jobs.specs.Fields.{field, split};
-ghost use Rattle.jobs.specs.Rows.{code_of, form_of, index_at, kind_at, kinds_of, memory_of, name_row, naming_of, number_at, row_of, rows_seen};
+ghost use Rattle.jobs.specs.Fields.{texts_in};
+ghost use Rattle.jobs.specs.Rows.{code_of, five_kinds, form_of, index, kinds_of, memory_of, name_row, naming_of, number, row_in, row_of, rows_seen};
 
-use crate::fields::{is, part, separators};
+use crate::fields::stretches;
 use forms::row::{FormRow, MemoryRow, NamingRow};
+use kinds::OperandKind;
 use text::reading::{read_decimal, read_hex2, read_hex4, read_index};
 
+/// How many fields a row has.
+pub(crate) const FIELDS: usize = 18;
+
 // The code of the kind that stands for no operand.
-const NO_OPERAND: u32 = 12;
+const NO_OPERAND: u32 = OperandKind::Absent as u32;
 
-fn number(line: &[u8], k: usize) -> Option<u32>
-    ensures { result ≡ number_at line.now k }
+#[tactic(auto, unfolding(crate::specs::Rows::number))]
+fn number(text: &[u8]) -> Option<u32>
+    ensures { result ≡ number text.now }
 {
-    read_decimal(part(line, b' ', k))
+    read_decimal(text)
 }
 
-fn index(line: &[u8], k: usize) -> Option<i32>
-    ensures { result ≡ index_at line.now k }
+#[tactic(auto, unfolding(crate::specs::Rows::index))]
+fn index(text: &[u8]) -> Option<i32>
+    ensures { result ≡ index text.now }
 {
-    read_index(part(line, b' ', k))
+    read_index(text)
 }
 
-fn read_code(t: &[u8]) -> Option<(u16, u32)>
-    ensures { result ≡ code_of t.now }
+#[tactic(auto, unfolding(crate::specs::Rows::code_of))]
+fn read_code(text: &[u8]) -> Option<(u16, u32)>
+    ensures { result ≡ code_of text.now }
 {
-    if t.len() == 2 {
-        let n = read_hex2(t)?;
-        return Some((n as u16, 1));
+    if text.len() == 2 {
+        Some((read_hex2(text)? as u16, 1))
+    } else {
+        Some((read_hex4(text)?, 2))
     }
-    let n = read_hex4(t)?;
-    Some((n, 2))
 }
 
-// Kind `k` of numbers with commas between them, of which `last` is the place of the last.
-fn kind(t: &[u8], last: usize, k: usize) -> Option<u32>
-    requires { last + 1 ≡ length (split 44 t.now) }
-    ensures { result ≡ kind_at (split 44 t.now) k }
+// The kinds of the numbers, and after them no operand.
+fn five_kinds(listed: &[&[u8]]) -> Option<[u32; 5]>
+    requires { length listed.now ≤ 5 }
+    ensures { result ≡ five_kinds (texts_in listed.now) }
 {
-    if k > last {
-        return Some(NO_OPERAND);
+    let mut kinds = [NO_OPERAND; 5];
+    for (place, text) in listed.iter().enumerate() {
+        kinds[place] = read_decimal(text)?;
     }
-    read_decimal(part(t, b',', k))
+    Some(kinds)
 }
 
-fn read_kinds(t: &[u8]) -> Option<([u32; 5], u32)>
-    ensures { result ≡ kinds_of t.now }
+#[tactic(auto, unfolding(crate::specs::Rows::kinds_of))]
+fn read_kinds(text: &[u8]) -> Option<([u32; 5], u32)>
+    ensures { result ≡ kinds_of text.now }
 {
-    if is(t, b"-") {
+    if text == b"-".as_slice() {
         return Some(([NO_OPERAND; 5], 0));
     }
-    let last = separators(t, b',');
-    if last > 4 {
-        return None;
-    }
-    let a = kind(t, last, 0)?;
-    let b = kind(t, last, 1)?;
-    let c = kind(t, last, 2)?;
-    let d = kind(t, last, 3)?;
-    let e = kind(t, last, 4)?;
-    Some(([a, b, c, d, e], last as u32 + 1))
+    let listed = stretches::<5>(text, b',')?;
+    Some((five_kinds(listed.as_slice())?, listed.len() as u32))
 }
 
-fn read_memory(t: &[u8]) -> Option<MemoryRow>
-    ensures { result ≡ memory_of t.now }
+fn read_memory(text: &[u8]) -> Option<MemoryRow>
+    ensures { result ≡ memory_of text.now }
 {
-    if separators(t, b':') != 1 {
+    let parts = stretches::<2>(text, b':')?;
+    let [label, size] = parts.as_slice() else {
         return None;
-    }
-    let label = read_decimal(part(t, b':', 0))?;
-    let size = read_decimal(part(t, b':', 1))?;
-    Some(MemoryRow { label, size })
+    };
+    Some(MemoryRow {
+        label: read_decimal(label)?,
+        size: read_decimal(size)?,
+    })
 }
 
-fn read_form(line: &[u8]) -> Option<FormRow>
-    ensures { result ≡ form_of line.now }
+#[tactic(auto, using(crate::proofs::TextsIn::field_is))]
+fn read_form(fields: &[&[u8]]) -> Option<FormRow>
+    requires { length fields.now ≡ 18 }
+    ensures { result ≡ form_of (texts_in fields.now) }
 {
-    let encoding = number(line, 1)?;
-    let table = number(line, 2)?;
-    let prefix = number(line, 3)?;
-    let (opcode, bytes) = read_code(part(line, b' ', 4))?;
-    let address = number(line, 5)?;
-    let operand = number(line, 6)?;
-    let length = number(line, 7)?;
-    let lkind = number(line, 8)?;
-    let flags = read_hex4(part(line, b' ', 9))?;
-    let group = index(line, 10)?;
-    let rm = index(line, 11)?;
-    let (kinds, count) = read_kinds(part(line, b' ', 12))?;
-    let tag = number(line, 13)?;
-    Some(FormRow {
+    let [
+        _,
         encoding,
         table,
         prefix,
-        opcode,
-        bytes,
+        code,
         address,
         operand,
         length,
@@ -105,37 +95,64 @@ fn read_form(line: &[u8]) -> Option<FormRow>
         group,
         rm,
         kinds,
-        count,
         tag,
+        ..
+    ] = fields
+    else {
+        return None;
+    };
+    let (opcode, bytes) = read_code(code)?;
+    let (kinds, count) = read_kinds(kinds)?;
+    Some(FormRow {
+        encoding: number(encoding)?,
+        table: number(table)?,
+        prefix: number(prefix)?,
+        opcode,
+        bytes,
+        address: number(address)?,
+        operand: number(operand)?,
+        length: number(length)?,
+        lkind: number(lkind)?,
+        flags: read_hex4(flags)?,
+        group: index(group)?,
+        rm: index(rm)?,
+        kinds,
+        count,
+        tag: number(tag)?,
     })
 }
 
-fn read_naming<'a>(line: &'a [u8]) -> Option<NamingRow<'a>>
-    ensures { option_map name_row result ≡ naming_of line.now }
+fn read_naming<'a>(fields: &[&'a [u8]]) -> Option<NamingRow<'a>>
+    requires { length fields.now ≡ 18 }
+    ensures { option_map name_row result ≡ naming_of (texts_in fields.now) }
 {
-    let mnemonic = part(line, b' ', 14);
+    let [.., mnemonic, option, memory, broadcast] = fields else {
+        return None;
+    };
     if mnemonic.len() == 0 {
         return None;
     }
-    let option = number(line, 15)?;
-    let memory = read_memory(part(line, b' ', 16))?;
-    let broadcast = read_memory(part(line, b' ', 17))?;
     Some(NamingRow {
         mnemonic,
-        option,
-        memory,
-        broadcast,
+        option: number(option)?,
+        memory: read_memory(memory)?,
+        broadcast: read_memory(broadcast)?,
     })
+}
+
+// The row of a line with these fields.
+pub(crate) fn read_fields<'a>(fields: &[&'a [u8]]) -> Option<(FormRow, NamingRow<'a>)>
+    ensures { option_map rows_seen result ≡ row_in (texts_in fields.now) }
+{
+    if fields.len() != FIELDS || fields[0] != b"row".as_slice() {
+        return None;
+    }
+    Some((read_form(fields)?, read_naming(fields)?))
 }
 
 /// The row that a line spells. No line spells an empty mnemonic: two spaces after each other make no row.
 pub fn read_row<'a>(line: &'a [u8]) -> Option<(FormRow, NamingRow<'a>)>
     ensures { option_map rows_seen result ≡ row_of line.now }
 {
-    if separators(line, b' ') != 17 || !is(part(line, b' ', 0), b"row") {
-        return None;
-    }
-    let form = read_form(line)?;
-    let naming = read_naming(line)?;
-    Some((form, naming))
+    read_fields(stretches::<FIELDS>(line, b' ')?.as_slice())
 }

@@ -1,21 +1,17 @@
 // A line of a job, read.
 ghost use Rattle.std.specs.Prelude.{◌≡◌};
-ghost use Rattle.jobs.specs.Commands.{blank, command_of, open_of, opened_at, passed_over, said, window_of};
+ghost use Rattle.jobs.specs.Commands.{blank, command_in, command_of, open_of, opened_at, passed_over, said, window_of, word_of};
+ghost use Rattle.jobs.specs.Fields.{texts_in};
 
-use super::Command;
-use crate::fields::{is, part, separators};
-use crate::row::read_row;
+use super::{Command, Opening};
+use crate::fields::stretches;
+use crate::row::{FIELDS, read_fields};
 use text::reading::read_decimal;
 
 fn blank(line: &[u8]) -> bool
     ensures { result ≡ blank line.now }
 {
-    for b in line {
-        if *b != b' ' {
-            return false;
-        }
-    }
-    true
+    line.iter().all(|b| *b == b' ')
 }
 
 fn passed_over(line: &[u8]) -> bool
@@ -24,85 +20,82 @@ fn passed_over(line: &[u8]) -> bool
     blank(line) || (line.len() > 0 && line[0] == b'#')
 }
 
-fn read_window(a: &[u8], b: &[u8]) -> Option<(u32, u32)>
-    ensures { result ≡ window_of a.now b.now }
+fn read_window(from: &[u8], to: &[u8]) -> Option<(u32, u32)>
+    ensures { result ≡ window_of from.now to.now }
 {
-    let from = read_decimal(a)?;
-    let to = read_decimal(b)?;
-    Some((from, to))
+    Some((read_decimal(from)?, read_decimal(to)?))
 }
 
-fn opened<'a>(front: bool, a: &[u8], b: &[u8]) -> Command<'a>
-    ensures { said result ≡ opened_at front (window_of a.now b.now) }
+// With such a window, where the two are numbers.
+fn opened<'a>(front: bool, from: &[u8], to: &[u8]) -> Command<'a>
+    ensures { said result ≡ opened_at front (window_of from.now to.now) }
 {
-    match read_window(a, b) {
-        Some(window) => Command::Open {
+    match read_window(from, to) {
+        Some(window) => Command::Open(Opening {
             front,
             window: Some(window),
-        },
+        }),
         None => Command::Unknown,
     }
 }
 
-fn read_open<'a>(line: &[u8]) -> Command<'a>
-    ensures { said result ≡ open_of line.now }
+// The words of the line are `open` and what follows it.
+fn read_open<'a>(words: &[&[u8]]) -> Command<'a>
+    ensures { said result ≡ open_of (texts_in words.now) }
 {
-    let words = separators(line, b' ');
-    if words == 0 {
-        return Command::Open {
-            front: false,
-            window: None,
-        };
-    }
-    let first = part(line, b' ', 1);
-    let second = part(line, b' ', 2);
-    if words == 2 {
-        return opened(false, first, second);
-    }
-    if !is(first, b"front") {
-        return Command::Unknown;
-    }
     match words {
-        1 => Command::Open {
+        [_] => Command::Open(Opening::default()),
+        [_, front] if *front == b"front".as_slice() => Command::Open(Opening {
             front: true,
             window: None,
-        },
-        3 => opened(true, second, part(line, b' ', 3)),
+        }),
+        [_, from, to] => opened(false, from, to),
+        [_, front, from, to] if *front == b"front".as_slice() => opened(true, from, to),
         _ => Command::Unknown,
     }
 }
 
+#[tactic(auto, unfolding(crate::specs::Commands::word_of))]
+fn read_word<'a>(word: &[u8]) -> Command<'a>
+    ensures { said result ≡ word_of word.now }
+{
+    if word == b"check".as_slice() {
+        Command::Check
+    } else if word == b"texts".as_slice() {
+        Command::Texts
+    } else if word == b"entries".as_slice() {
+        Command::Entries
+    } else {
+        Command::Unknown
+    }
+}
+
+#[tactic(auto, unfolding(crate::specs::Commands::command_in))]
+fn read_words<'a>(words: &[&'a [u8]]) -> Command<'a>
+    ensures { said result ≡ command_in (texts_in words.now) }
+{
+    match words {
+        [word, ..] if *word == b"row".as_slice() => match read_fields(words) {
+            Some((form, naming)) => Command::Row(form, naming),
+            None => Command::Unknown,
+        },
+        [word, ..] if *word == b"open".as_slice() => read_open(words),
+        [word] => read_word(word),
+        [word, name] if *word == b"segment".as_slice() && name.len() != 0 => Command::Segment(name),
+        _ => Command::Unknown,
+    }
+}
+
+/// What a line says.
+#[tactic(auto, using(crate::proofs::ManyFields::many_fields))]
 pub fn read_command<'a>(line: &'a [u8]) -> Command<'a>
     ensures { said result ≡ command_of line.now }
 {
     if passed_over(line) {
         return Command::Nothing;
     }
-    let word = part(line, b' ', 0);
-    if is(word, b"row") {
-        return match read_row(line) {
-            Some((form, naming)) => Command::Row(form, naming),
-            None => Command::Unknown,
-        };
+    match stretches::<FIELDS>(line, b' ') {
+        Some(words) => read_words(words.as_slice()),
+        None => Command::Unknown,
     }
-    if is(word, b"open") {
-        return read_open(line);
-    }
-    if is(word, b"segment") {
-        let name = part(line, b' ', 1);
-        if separators(line, b' ') == 1 && name.len() != 0 {
-            return Command::Segment(name);
-        }
-        return Command::Unknown;
-    }
-    if is(line, b"check") {
-        return Command::Check;
-    }
-    if is(line, b"texts") {
-        return Command::Texts;
-    }
-    if is(line, b"entries") {
-        return Command::Entries;
-    }
-    Command::Unknown
 }

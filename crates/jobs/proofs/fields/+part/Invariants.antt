@@ -1,4 +1,0 @@
-use Rattle.jobs.proofs.fields.+part.Given as goal
-
-abbrev pub decreases-part : goal.decreases-part
-decreases-part l = l.k
