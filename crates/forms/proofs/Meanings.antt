@@ -1,13 +1,13 @@
 -- What a number of a row stands for, and which numbers stand for nothing. Assumes nothing.
-use Rattle.std.proofs.Common.{◌≡◌, ℕ, ◌+◌, ◌<◌, ◌≤◌, Bool, ◌||◌, List, [], ◌∷◌, length, get_or, Some, None, Ok, Option, Result, false, ap, inl, inr, refl, arith}
+use Rattle.std.proofs.Common.{◌≡◌, ℕ, ◌+◌, ◌<◌, Bool, ◌||◌, List, [], ◌∷◌, length, Ok, Result, false, ap, inl, inr, refl, arith}
 use Rattle.std.proofs.lemmas.Bool.Decides.{leb_tells, nat_tests}
 use Rattle.std.proofs.lemmas.Option.{slice_get-get_or, slice_get_cases}
 use Rattle.std.proofs.Math.Bool.{or-false}
-use Rattle.std.specs.Prelude.{nat_lt, slice_get, slice_index, slice_index_or}
+use Rattle.std.specs.Prelude.{nat_lt, slice_index, slice_index_or}
 use Rattle.std.specs.List.{list_any}
 use Rattle.std.specs.Option.{ok_or}
 use Rattle.std.specs.Result.{is_err}
-use Rattle.kinds.specs.Kinds.{kinds, kind_at}
+use Rattle.kinds.specs.Kinds.{kind_at}
 use Rattle.kinds.proofs.Numbers.{below_count, past_count}
 use Rattle.kinds.specs.declared.kind.OperandKind.{OperandKind}
 use Rattle.kinds.specs.declared.kind.UnknownKind.{UnknownKind}

@@ -1,9 +1,9 @@
 // The checks of rows, in the order of their numbers.
-ghost use Rattle.std.specs.Prelude.{◌≡◌};
+ghost use Rattle.std.specs.Prelude.{◌≡◌, not, ◌&&◌, ◌||◌, ◌==◌, nat_le, nat_lt};
 ghost use Rattle.forms.specs.Checks.{codes_outside, operands_wrong, no_size, opcode_wrong, index_outside, length_wrong, broadcast_wrong, operands_fault, numbers_fault, form_fault, mnemonic_wrong, in_set, all_in_set, pair_fault};
 ghost use Rattle.forms.specs.Operands.{kinds_of};
 
-use crate::codes::{LengthKind, Prefix, Size, Table, Tag};
+use crate::codes::{Encoding, LengthKind, Prefix, Size, Table, Tag};
 use crate::fault::RowFault;
 use crate::form::Flags;
 use crate::operands::{
@@ -13,11 +13,18 @@ use crate::operands::{
 use crate::row::{FormRow, NamingRow};
 use kinds::OperandKind;
 
+// Past the code of MVEX, which check 2 refuses.
+fn is_outside(encoding: u32) -> bool
+    ensures { result ≡ nat_lt 5 encoding }
+{
+    Encoding::try_from(encoding) == Err(RowFault::CodeOutside)
+}
+
 #[tactic(auto, using(crate::proofs::Meanings::table_outside, crate::proofs::Meanings::prefix_outside, crate::proofs::Meanings::length_kind_outside, crate::proofs::Meanings::tag_outside, crate::proofs::Meanings::any_of_five))]
 fn codes_outside(row: &FormRow) -> bool
     ensures { result ≡ codes_outside row.now }
 {
-    if row.encoding > 5 || row.flags > 2047 {
+    if is_outside(row.encoding) || row.flags > 2047 {
         return true;
     }
     let table = Table::try_from(row.table).is_err();
@@ -54,12 +61,31 @@ fn index_outside(index: i32) -> bool
     index < -1 || index > 7
 }
 
+fn is_vector(encoding: u32) -> bool
+    ensures { result ≡ (nat_le 1 encoding && nat_le encoding 3) }
+{
+    matches!(
+        Encoding::try_from(encoding),
+        Ok(Encoding::Vex | Encoding::Evex | Encoding::Xop)
+    )
+}
+
+// Without LIG a length is spelled, and LZ spells no other length than 0.
+fn is_misspelled(lkind: u32, length: u32) -> bool
+    ensures { result ≡ (lkind == 0 || (lkind == 3 && not (length == 0))) }
+{
+    match LengthKind::try_from(lkind) {
+        Ok(LengthKind::Absent) => true,
+        Ok(LengthKind::Lz) => length != 0,
+        _ => false,
+    }
+}
+
 fn length_wrong(row: &FormRow) -> bool
     ensures { result ≡ length_wrong row.now }
 {
-    let vector = row.encoding >= 1 && row.encoding <= 3;
     let lig = Flags::from(row.flags).lig;
-    row.length > 2 || (vector && !lig && (row.lkind == 0 || (row.lkind == 3 && row.length != 0)))
+    row.length > 2 || (is_vector(row.encoding) && !lig && is_misspelled(row.lkind, row.length))
 }
 
 fn broadcast_wrong(kinds: &[OperandKind; 5], flags: u16) -> bool
@@ -75,7 +101,7 @@ fn operands_fault(row: &FormRow, kinds: &[OperandKind; 5]) -> Option<RowFault>
     if codes_outside(row) {
         return Some(RowFault::CodeOutside);
     }
-    if row.encoding == 5 {
+    if Encoding::try_from(row.encoding) == Err(RowFault::Mvex) {
         return Some(RowFault::Mvex);
     }
     if operands_wrong(kinds, row.count) {

@@ -6,6 +6,7 @@ ghost use Rattle.forms.specs.Reasons.{reason_of};
 use std::error::Error;
 use std::fmt;
 
+/// The check that a row fails, 1 to 11 in their order.
 #[derive(Clone, Copy, Debug, PartialEq, Eq)]
 pub enum RowFault {
     /// 1: a code, or a flag bit above 10, is outside its set.
@@ -51,9 +52,7 @@ impl RowFault {
             RowFault::NamingCode => 11,
         }
     }
-}
 
-impl RowFault {
     /// Why the row is refused, in words.
     pub fn reason(self) -> &'static str
         ensures { result.now ≡ reason_of self }

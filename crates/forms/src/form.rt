@@ -52,12 +52,14 @@ impl From<u16> for Flags {
     }
 }
 
-/// `wide` says that the opcode has two bytes; group and rm are the fields of ModRM that the form fixes.
+/// `wide` says that the opcode has two bytes; group and rm are the fields of ModRM that the form fixes. The first `count`
+/// of the kinds are the operands.
 #[derive(Clone, Copy, Debug, PartialEq, Eq)]
 pub struct Form {
     pub encoding: Encoding,
     pub table: Table,
     pub prefix: Prefix,
+    // A number beside its length, and no enum of both: the low byte is printed alike at either length.
     pub opcode: u16,
     pub wide: bool,
     pub address: Size,
@@ -67,6 +69,7 @@ pub struct Form {
     pub flags: Flags,
     pub group: Option<u8>,
     pub rm: Option<u8>,
+    // An array with a count: a form is `Copy` and takes no heap, and the kit's `ArrayVec` is not `Copy`.
     pub kinds: [OperandKind; 5],
     pub count: u8,
     pub tag: Tag,
