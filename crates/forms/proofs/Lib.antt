@@ -1,4 +1,3 @@
-pub mod Finds
 pub mod Meanings
 pub mod Passing
 pub mod PassingNames

@@ -1,6 +1,5 @@
 -- The operand kinds of a row. Assumes nothing.
 use Rattle.std.specs.Prelude.{ℕ, Bool, List, [], ◌∷◌, slice_index}
-use Rattle.std.specs.List.{list_any}
 use Rattle.std.specs.Option.{unwrap_or}
 use Rattle.kinds.specs.Groups.{among}
 use Rattle.kinds.specs.Kinds.{kind_at}
@@ -30,7 +29,3 @@ is_general_register_or_memory k =
     ∷ OperandKind.R64OrMem
     ∷ OperandKind.R64OrMemMpx
     ∷ [])
-
--- One of the elements passes.
-abbrev pub any : {X : Type 0} → (X → Bool) → List X → Bool
-any = list_any
