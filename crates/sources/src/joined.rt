@@ -29,7 +29,8 @@ impl<A: Source, B: Source> Joined<A, B> {
     }
 }
 
-// An entry by its number in the first source or in the second.
+// An entry by its number in the first source or in the second; the two differ in type, so that no reference can stand for
+// either.
 #[derive(Clone, Copy)]
 pub(crate) enum Side {
     First(u32),
