@@ -10,7 +10,7 @@ use forms::description::Description;
 use forms::naming::Naming;
 
 /// The list of `first`, and then that of `second`.
-#[derive(Clone, Copy, Debug, PartialEq, Eq)]
+#[derive(Clone, Copy, Debug, PartialEq, Eq, Drop)]
 pub struct Joined<A, B> {
     pub first: A,
     pub second: B,
