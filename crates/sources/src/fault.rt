@@ -1,4 +1,4 @@
-// Why a source is refused, or does not give an entry.
+// The refusals of sources.
 ghost use Rattle.std.specs.Prelude.{◌≡◌};
 ghost use Rattle.sources.specs.Faults.{number_of, text_of};
 ghost use Rattle.sources.specs.declared.fault.SourceFault.TheVariants.{Row};
@@ -7,6 +7,7 @@ use forms::fault::RowFault;
 use std::error::Error;
 use std::fmt;
 
+/// Why a source is refused, or does not give an entry.
 #[derive(Clone, Copy, Debug, PartialEq, Eq)]
 pub enum SourceFault {
     /// 1 to 11: a row fails this check.
@@ -39,9 +40,7 @@ impl SourceFault {
             SourceFault::NoEntry => 14,
         }
     }
-}
 
-impl SourceFault {
     /// Why a source is refused, or gives no entry, in words; a row's fault says its own.
     pub fn reason(self) -> &'static str
         ensures { result.now ≡ text_of self }

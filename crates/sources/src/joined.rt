@@ -10,7 +10,7 @@ use forms::description::Description;
 use forms::naming::Naming;
 
 /// The list of `first`, and then that of `second`.
-#[derive(Clone, Copy, Debug, PartialEq, Eq)]
+#[derive(Clone, Copy, Debug, PartialEq, Eq, Drop)]
 pub struct Joined<A, B> {
     pub first: A,
     pub second: B,
@@ -29,7 +29,8 @@ impl<A: Source, B: Source> Joined<A, B> {
     }
 }
 
-// An entry by its number in the first source or in the second.
+// An entry by its number in the first source or in the second; the two differ in type, so that no reference can stand for
+// either.
 #[derive(Clone, Copy)]
 pub(crate) enum Side {
     First(u32),

@@ -11,7 +11,7 @@ use forms::description::Description;
 use forms::naming::Naming;
 
 /// The lists of the sources, in their order.
-#[derive(Clone, Copy, Debug, PartialEq, Eq)]
+#[derive(Clone, Copy, Debug, PartialEq, Eq, Drop)]
 pub struct JoinedAll<'a, S> {
     pub sources: &'a [S],
 }

@@ -19,6 +19,7 @@ pub trait Source {
 
     ghost short: { (s : Self) → length (list s) ≤ most };
 
+    /// How many entries there are.
     fn count(&self) -> u32
         ensures { result ≡ length (list self.now) };
 

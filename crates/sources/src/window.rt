@@ -10,7 +10,7 @@ use forms::description::Description;
 use forms::naming::Naming;
 
 /// The entries from `from` up to, without, `to`. Two numbers and no range: a window may be made that starts after its end.
-#[derive(Clone, Copy, Debug, PartialEq, Eq)]
+#[derive(Clone, Copy, Debug, PartialEq, Eq, Drop)]
 pub struct Window<S> {
     pub source: S,
     pub from: u32,
