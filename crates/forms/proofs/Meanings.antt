@@ -60,6 +60,9 @@ length_kind_outside n = past_last length_kinds RowFault.CodeOutside n 3 refl
 pub tag_outside : (n : ℕ) → is_err (decoded tags RowFault.CodeOutside n) ≡ nat_lt 16 n
 tag_outside n = past_last tags RowFault.CodeOutside n 16 refl
 
+pub length_outside : (n : ℕ) → is_err (decoded lengths RowFault.VectorLength n) ≡ nat_lt 2 n
+length_outside n = past_last lengths RowFault.VectorLength n 2 refl
+
 pub encoding_within : (n : ℕ) → n < 5 → encoding_from n ≡ Ok (encoding_of n)
 encoding_within n below =
     let known = within encodings RowFault.CodeOutside n Encoding.Legacy below in

@@ -3,7 +3,7 @@ ghost use Rattle.std.specs.Prelude.{◌≡◌, not, ◌&&◌, ◌||◌, ◌==◌
 ghost use Rattle.forms.specs.Checks.{codes_outside, operands_wrong, no_size, opcode_wrong, index_outside, length_wrong, broadcast_wrong, operands_fault, numbers_fault, form_fault, mnemonic_wrong, in_set, all_in_set, pair_fault};
 ghost use Rattle.forms.specs.Operands.{kinds_of};
 
-use crate::codes::{Encoding, LengthKind, Prefix, Size, Table, Tag};
+use crate::codes::{Encoding, LengthKind, Prefix, Size, Table, Tag, VectorLength};
 use crate::fault::RowFault;
 use crate::form::Flags;
 use crate::operands::{
@@ -81,11 +81,19 @@ fn is_misspelled(lkind: u32, length: u32) -> bool
     }
 }
 
+#[tactic(auto, using(crate::proofs::Meanings::length_outside))]
+fn no_length(length: u32) -> bool
+    ensures { result ≡ nat_lt 2 length }
+{
+    VectorLength::try_from(length).is_err()
+}
+
 fn length_wrong(row: &FormRow) -> bool
     ensures { result ≡ length_wrong row.now }
 {
     let lig = Flags::from(row.flags).lig;
-    row.length > 2 || (is_vector(row.encoding) && !lig && is_misspelled(row.lkind, row.length))
+    no_length(row.length)
+        || (is_vector(row.encoding) && !lig && is_misspelled(row.lkind, row.length))
 }
 
 fn broadcast_wrong(kinds: &[OperandKind; 5], flags: u16) -> bool
@@ -94,7 +102,7 @@ fn broadcast_wrong(kinds: &[OperandKind; 5], flags: u16) -> bool
     Flags::from(flags).broadcast && any_general_register_or_memory(kinds)
 }
 
-// Checks 1 to 4.
+// Checks 1 to 4, one `if` each in their order: answers to be passed on by `?` would say no more.
 fn operands_fault(row: &FormRow, kinds: &[OperandKind; 5]) -> Option<RowFault>
     ensures { result ≡ operands_fault row.now kinds.now }
 {

@@ -34,7 +34,7 @@ pub enum RowFault {
 }
 
 impl RowFault {
-    /// The refusal's number.
+    /// The refusal's number; a table beside the refusals, as the documents have it.
     pub fn number(self) -> u32
         ensures { result ≡ fault_number self }
     {

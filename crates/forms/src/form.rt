@@ -75,7 +75,7 @@ pub struct Form {
     pub tag: Tag,
 }
 
-/// A memory operand's label and its size in bytes, at most 512.
+/// A memory operand's label and its size in bytes; one that is made of a row has at most 512.
 #[derive(Clone, Copy, Debug, PartialEq, Eq)]
 pub struct Memory {
     pub label: MemoryLabel,

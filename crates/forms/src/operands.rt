@@ -1,4 +1,5 @@
-// What the checks ask of a row's operand kinds.
+// What the checks ask of a row's operand kinds. Each chain stands in a function of its own: beside the other tests of a check
+// it leaves that check's goal open.
 ghost use Rattle.std.specs.Prelude.{◌≡◌, not, drop, nat_lt};
 ghost use Rattle.std.specs.List.{list_any};
 ghost use Rattle.kinds.specs.Kinds.{is_absent, is_seg_rdi};

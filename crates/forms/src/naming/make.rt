@@ -1,5 +1,5 @@
 // How a naming is made, and what it hands out.
-ghost use Rattle.std.specs.Prelude.{◌≡◌, ◌≤◌, true, false, MatchResult};
+ghost use Rattle.std.specs.Prelude.{◌≡◌, ◌≤◌, false};
 ghost use Rattle.forms.specs.Checks.{mnemonic_wrong, naming_fault};
 ghost use Rattle.forms.specs.Names.{memories_from, named};
 ghost use Rattle.forms.specs.Made.{name_in, name_got};
