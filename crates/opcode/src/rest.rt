@@ -36,7 +36,7 @@ impl OpCodeFormatter<'_> {
     ghost use Rattle.text.specs.Wrote.{Wrote};
     ghost use Rattle.opcode.specs.Rest.{suffixes_text, rest_text};
 
-    // The immediate after an /is5 is not shown.
+    // In the order of the operands; the immediate after an /is5 is not shown.
     fn append_suffixes(&self, w: &mut Writer) -> Result<(), WriteFault>
         ensures { Wrote w.old (suffixes_text self.now.operands.now) w.new result }
     {
