@@ -4,6 +4,7 @@
 pub mod check;
 pub mod codes;
 pub mod description;
+pub mod entry;
 pub mod fault;
 pub mod form;
 pub mod naming;

@@ -1,5 +1,10 @@
 // Plain rows, as they are typed or stored: any number may stand in them.
 
+use kinds::OperandKind;
+
+/// The code of the kind that stands where there is no operand.
+pub const NO_OPERAND: u32 = OperandKind::Absent as u32;
+
 /// One form. The first `count` of the five operand kinds are its operands; `bytes` is the opcode's length.
 #[derive(Clone, Copy, Debug, PartialEq, Eq)]
 pub struct FormRow {
