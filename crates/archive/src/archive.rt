@@ -1,65 +1,49 @@
 // The archive of a job: the segments in order, after the front matter or without it, seen through a window.
-use crate::job::{Job, Opening};
+use crate::job::Job;
 use crate::texts;
+use jobs::command::Opening;
 use sources::fault::SourceFault;
 use sources::front::FrontMatter;
 use sources::joined::Joined;
+use sources::joined_all::JoinedAll;
 use sources::shelf::Shelf;
-use sources::source::{NamingSource, Source};
+use sources::source::Source;
 use sources::window::Window;
+use std::alloc::{AllocError, Global};
 use std::io;
 use std::io::Write;
 
-// How many entries there are before all others.
-const FRONT: u32 = 6;
+type Archive<'a, 't> = Window<Joined<Window<FrontMatter>, JoinedAll<'a, Shelf<'a, 'a, 't>>>>;
 
-type Two<'a, 't> = Joined<Shelf<'a, 'a, 't>, Shelf<'a, 'a, 't>>;
-
-type Four<'a, 't> = Joined<Two<'a, 't>, Two<'a, 't>>;
-
-type Archive<'a, 't> = Window<Joined<Window<FrontMatter>, Four<'a, 't>>>;
-
-fn shelf<'a, 't>(job: &'a Job<'t>, n: usize) -> Shelf<'a, 'a, 't> {
-    Shelf::new(job.rows_of(n), job.namings_of(n))
+fn shelves<'a, 't>(heap: Global, job: &'a Job<'t>) -> Result<Vec<Shelf<'a, 'a, 't>>, AllocError> {
+    job.segments
+        .iter()
+        .map(|segment| job.shelf(segment))
+        .collect(heap)
 }
 
-// A segment that is not there is an empty shelf.
-fn assemble<'a, 't>(job: &'a Job<'t>) -> Archive<'a, 't> {
-    let Opening { front, window } = job.opening;
+fn assemble<'a, 't>(opening: Opening, shelves: &'a [Shelf<'a, 'a, 't>]) -> Archive<'a, 't> {
+    let front = FrontMatter;
+    let to = if opening.front { front.count() } else { 0 };
     let source = Joined {
         first: Window {
-            source: FrontMatter,
+            source: front,
             from: 0,
-            to: if front { FRONT } else { 0 },
+            to,
         },
-        second: Joined {
-            first: Joined {
-                first: shelf(job, 0),
-                second: shelf(job, 1),
-            },
-            second: Joined {
-                first: shelf(job, 2),
-                second: shelf(job, 3),
-            },
-        },
+        second: JoinedAll { sources: shelves },
     };
-    let (from, to) = match window {
-        Some(window) => window,
-        None => (0, source.count()),
-    };
+    let (from, to) = opening.window.unwrap_or((0, source.count()));
     Window { source, from, to }
 }
 
 // The first check that fails, from the inside out.
 fn check(archive: &Archive) -> Result<(), SourceFault> {
-    let four = &archive.source.second;
-    four.first.first.check()?;
-    four.first.second.check()?;
-    four.second.first.check()?;
-    four.second.second.check()?;
-    four.first.check()?;
-    four.second.check()?;
-    four.check()?;
+    let all = &archive.source.second;
+    for shelf in all.sources {
+        shelf.check()?;
+    }
+    all.check()?;
     archive.source.check()?;
     archive.check()
 }
@@ -70,8 +54,9 @@ fn refused<W: Write>(out: &mut W, fault: SourceFault) -> io::Result<()> {
 }
 
 // The command `open`: how many entries the archive has.
-pub(crate) fn open<W: Write>(job: &Job, out: &mut W) -> io::Result<()> {
-    let archive = assemble(job);
+pub(crate) fn open<W: Write>(heap: Global, job: &Job, out: &mut W) -> io::Result<()> {
+    let shelves = shelves(heap, job)?;
+    let archive = assemble(job.opening, &shelves);
     match check(&archive) {
         Ok(()) => {
             let count = archive.count();
@@ -82,8 +67,9 @@ pub(crate) fn open<W: Write>(job: &Job, out: &mut W) -> io::Result<()> {
 }
 
 // The command `entries`: the texts of each entry. A refused archive has none.
-pub(crate) fn entries<W: Write>(job: &Job, out: &mut W) -> io::Result<()> {
-    let archive = assemble(job);
+pub(crate) fn entries<W: Write>(heap: Global, job: &Job, out: &mut W) -> io::Result<()> {
+    let shelves = shelves(heap, job)?;
+    let archive = assemble(job.opening, &shelves);
     match check(&archive) {
         Ok(()) => texts::entries(&archive, out),
         Err(fault) => refused(out, fault),

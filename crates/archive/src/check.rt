@@ -1,55 +1,49 @@
 // The command `check`: what came of each row, and of each segment.
-use crate::job::Job;
+use crate::job::{Job, Segment};
+use forms::check::check_pair;
 use forms::fault::RowFault;
-use forms::row::{FormRow, NamingRow};
-use jobs::reason::reason;
-use sources::shelf::{Shelf, first_refused};
 use sources::source::Source;
 use std::io;
 use std::io::Write;
 
-fn fault_of(row: &FormRow, naming: &NamingRow) -> Option<RowFault> {
-    match row.check() {
-        Some(fault) => Some(fault),
-        None => naming.check(),
-    }
-}
-
 // `K refused N: REASON`
 pub(crate) fn refused<W: Write>(out: &mut W, k: usize, fault: RowFault) -> io::Result<()> {
     let number = fault.number();
-    let why = reason(fault);
-    writeln!(out, "{k} refused {number}: {why}")
+    writeln!(out, "{k} refused {number}: {fault}")
 }
 
-fn check_rows<W: Write>(out: &mut W, rows: &[FormRow], namings: &[NamingRow]) -> io::Result<()> {
-    let count = rows.len().min(namings.len());
-    let mut accepted = 0;
-    for k in 0..count {
-        match fault_of(&rows[k], &namings[k]) {
+fn check_rows<W: Write>(job: &Job, out: &mut W) -> io::Result<()> {
+    let (rows, namings) = (job.rows.as_slice(), job.namings.as_slice());
+    for (k, (row, naming)) in rows.iter().zip(namings).enumerate() {
+        match check_pair(row, naming) {
             Some(fault) => refused(out, k, fault)?,
-            None => {
-                writeln!(out, "{k} accepted")?;
-                accepted += 1;
-            }
+            None => writeln!(out, "{k} accepted")?,
         }
     }
-    let failed = count - accepted;
+    let count = rows.len();
+    let failed = rows
+        .iter()
+        .zip(namings)
+        .filter(|(row, naming)| check_pair(row, naming).is_some())
+        .count();
+    let accepted = count - failed;
     writeln!(out, "{count} rows, {accepted} accepted, {failed} refused")
 }
 
-fn check_segment<W: Write>(
-    out: &mut W,
-    start: usize,
-    rows: &[FormRow],
-    namings: &[NamingRow],
-) -> io::Result<()> {
-    if let Some((i, fault)) = first_refused(rows, namings) {
+fn check_segment<W: Write>(job: &Job, segment: &Segment, out: &mut W) -> io::Result<()> {
+    let refused = job
+        .rows
+        .iter()
+        .zip(&job.namings)
+        .enumerate()
+        .skip(segment.places.start)
+        .take(segment.places.len())
+        .find_map(|(k, (row, naming))| check_pair(row, naming).map(|fault| (k, fault)));
+    if let Some((k, fault)) = refused {
         let number = fault.number();
-        let k = start.saturating_add(i);
         return writeln!(out, ": refused {number} at row {k}");
     }
-    let shelf = Shelf::new(rows, namings);
+    let shelf = job.shelf(segment);
     match shelf.check() {
         Ok(()) => {
             let count = shelf.count();
@@ -63,11 +57,11 @@ fn check_segment<W: Write>(
 }
 
 pub(crate) fn check<W: Write>(job: &Job, out: &mut W) -> io::Result<()> {
-    check_rows(out, job.rows.as_slice(), job.namings.as_slice())?;
-    for (n, segment) in job.segments.iter().enumerate() {
+    check_rows(job, out)?;
+    for segment in &job.segments {
         out.write_all(b"segment ")?;
         out.write_all(segment.name)?;
-        check_segment(out, segment.start, job.rows_of(n), job.namings_of(n))?;
+        check_segment(job, segment, out)?;
     }
     Ok(())
 }

@@ -1,23 +1,20 @@
 // What a job has said so far: its rows, in segments, and how its archive is opened.
 use forms::row::{FormRow, NamingRow};
+use jobs::command::Opening;
+use sources::shelf::Shelf;
 use std::alloc::{AllocError, Global};
+use std::ops::Range;
 
 pub const MOST_SEGMENTS: usize = 4;
 
-/// A segment goes from its start up to the next segment's start.
-#[derive(Clone, Copy)]
+/// A name, and the places of its rows among all of the job.
+#[derive(Drop)]
 pub struct Segment<'a> {
     pub name: &'a [u8],
-    pub start: usize,
+    pub places: Range<usize>,
 }
 
-/// Which part of the archive is opened: with the front matter or without it, from one entry up to another or whole.
-#[derive(Clone, Copy)]
-pub struct Opening {
-    pub front: bool,
-    pub window: Option<(u32, u32)>,
-}
-
+// Rows and namings stand in two vectors, since a shelf borrows two slices: lent memory.
 #[derive(Drop)]
 pub struct Job<'a> {
     pub rows: Vec<FormRow>,
@@ -26,11 +23,9 @@ pub struct Job<'a> {
     pub opening: Opening,
 }
 
-// The items from one place up to another, as far as they are there.
-fn between<T>(items: &[T], places: (usize, usize)) -> &[T] {
-    let end = places.1.min(items.len());
-    let start = places.0.min(end);
-    &items[start..end]
+// The items at these places, where they are there.
+fn part<T>(items: &[T], places: Range<usize>) -> &[T] {
+    items.get(places).unwrap_or(&[])
 }
 
 impl<'a> Job<'a> {
@@ -39,47 +34,37 @@ impl<'a> Job<'a> {
             rows: Vec::new(heap),
             namings: Vec::new(heap),
             segments: Vec::new(heap),
-            opening: Opening {
-                front: false,
-                window: None,
-            },
+            opening: Opening::default(),
         }
     }
 
     // A row belongs to the last segment; before the first, it starts the segment `main`.
     pub(crate) fn add(&mut self, form: FormRow, naming: NamingRow<'a>) -> Result<(), AllocError> {
-        if self.segments.len() == 0 {
+        if self.segments.is_empty() {
             self.start(b"main")?;
         }
         self.rows.push(form)?;
         self.namings.push(naming)?;
+        let end = self.rows.len();
+        if let Some(segment) = self.segments.last_mut() {
+            segment.places.end = end;
+        }
         Ok(())
     }
 
     pub(crate) fn start(&mut self, name: &'a [u8]) -> Result<(), AllocError> {
-        let start = self.rows.len();
-        self.segments.push(Segment { name, start })?;
+        let end = self.rows.len();
+        self.segments.push(Segment {
+            name,
+            places: end..end,
+        })?;
         Ok(())
     }
 
-    // The places of the rows of segment `n`; a segment that is not there has none.
-    pub(crate) fn places(&self, n: usize) -> (usize, usize) {
-        let start = match self.segments.get(n) {
-            Some(segment) => segment.start,
-            None => self.rows.len(),
-        };
-        let end = match self.segments.get(n.saturating_add(1)) {
-            Some(next) => next.start,
-            None => self.rows.len(),
-        };
-        (start, end)
-    }
-
-    pub(crate) fn rows_of(&self, n: usize) -> &[FormRow] {
-        between(self.rows.as_slice(), self.places(n))
-    }
-
-    pub(crate) fn namings_of(&self, n: usize) -> &[NamingRow<'a>] {
-        between(self.namings.as_slice(), self.places(n))
+    pub(crate) fn shelf<'s>(&'s self, segment: &Segment) -> Shelf<'s, 's, 'a> {
+        let Range { start, end } = segment.places;
+        let rows = part(self.rows.as_slice(), start..end);
+        let namings = part(self.namings.as_slice(), start..end);
+        Shelf::new(rows, namings)
     }
 }

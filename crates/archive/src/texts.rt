@@ -4,7 +4,8 @@ use crate::job::Job;
 use forms::description::Description;
 use forms::naming::Naming;
 use lines::{OPCODE_BYTES, SIGNATURE_BYTES, checked, opcode_text, signature_text};
-use sources::source::{NamingSource, Source};
+use sources::entries::Entries;
+use sources::source::NamingSource;
 use std::io;
 use std::io::Write;
 
@@ -26,7 +27,7 @@ fn print_texts<W: Write>(
 
 // The command `texts`: the texts of each row, or why it has none.
 pub(crate) fn texts<W: Write>(job: &Job, out: &mut W) -> io::Result<()> {
-    for (k, (row, naming)) in job.rows.iter().zip(job.namings.iter()).enumerate() {
+    for (k, (row, naming)) in job.rows.iter().zip(&job.namings).enumerate() {
         match checked(row, naming) {
             Ok(entry) => print_texts(out, k, &entry.description, &entry.naming)?,
             Err(fault) => refused(out, k, fault)?,
@@ -37,14 +38,8 @@ pub(crate) fn texts<W: Write>(job: &Job, out: &mut W) -> io::Result<()> {
 
 // The texts of each entry of a source.
 pub(crate) fn entries<S: NamingSource, W: Write>(source: &S, out: &mut W) -> io::Result<()> {
-    for n in 0..source.count() {
-        match source.fetch(n) {
-            Ok(description) => match source.fetch_naming(n) {
-                Ok(naming) => print_texts(out, n as usize, &description, &naming)?,
-                Err(_) => unreachable(),
-            },
-            Err(_) => unreachable(),
-        }
+    for (k, (description, naming)) in Entries::of(source).enumerate() {
+        print_texts(out, k, &description, &naming)?;
     }
     Ok(())
 }

@@ -39,7 +39,7 @@ abbrev pub passed_over : List ℕ → Bool
 passed_over t = blank t || (nat_lt 0 (length t) && slice_index t 0 == 35)
 
 -- A B
-abbrev pub window_of : List ℕ → List ℕ → Option (ℕ × ℕ)
+unfoldable pub window_of : List ℕ → List ℕ → Option (ℕ × ℕ)
 window_of a b = with_some (decimal_of a) λ from. with_some (decimal_of b) λ to. Some (from, to)
 
 abbrev pub opened_at : Bool → Option (ℕ × ℕ) → Said

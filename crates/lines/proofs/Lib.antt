@@ -1,1 +1,1 @@
-mod Printed
+pub mod Printed

@@ -1,10 +1,15 @@
 -- A text that was laid over bytes is read back from them.
-use Rattle.std.proofs.Common.{◌≡◌, ℕ, ◌+◌, ◌-◌, ◌≤◌, List, [], ◌∷◌, ◌++◌, length, take, set, Result, sym, ap, ◌∙◌, arith}
+use Rattle.std.proofs.Common.{◌≡◌, ℕ, ◌+◌, ◌≤◌, List, [], ◌∷◌, ◌++◌, length, take, set, Ok, sym, ap, ◌∙◌, arith}
 use Rattle.std.proofs.lemmas.List.{append-nil, append_assoc, length-set, take_more_set}
-use Rattle.text.proofs.Writes.{same_length}
-use Rattle.text.specs.Wrote.{overlay, Wrote}
-use Rattle.text.specs.declared.writer.Writer.{Writer}
-use Rattle.text.specs.declared.writer.WriteFault.{WriteFault}
+use Rattle.std.proofs.lemmas.Bool.Decides.{nat_tests}
+use Rattle.text.specs.Sized.{Line}
+use Rattle.text.specs.Wrote.{overlay, rendered}
+use Rattle.forms.proofs.Passing.{few_operands}
+use Rattle.forms.specs.Made.{form_in, name_in}
+use Rattle.forms.specs.declared.description.Description.{Description}
+use Rattle.forms.specs.declared.naming.Naming.{Naming}
+use Rattle.signature.proofs.WalkLengths.{Line-signature_text}
+use Rattle.signature.specs.Signature.{signature_text}
 
 take-overlay : (xs : List ℕ) (i : ℕ) (t : List ℕ) → i + length t ≤ length xs → take (i + length t) (overlay xs i t) ≡ take i xs ++ t
 unfolding overlay
@@ -16,9 +21,16 @@ take-overlay xs i (b ∷ t) h =
     ∙ ap (λ p. p ++ t) (take_more_set xs i b (omega arith))
     ∙ append_assoc (take i xs) (b ∷ []) t
 
--- of a text that was written from the front on and had place, the bytes written are the text
-pub printed : {w v : Writer} {t : List ℕ} {r : Result (Unit {0}) WriteFault} (n : ℕ) → Wrote w t v r → w.at ≡ 0 → length t ≤ length v.out.now → n ≡ v.at → take (n - 0) v.out.now ≡ t
-printed {w} {v} {t} n p front room all =
-    let same = same_length p in
-    let long : n - 0 ≡ 0 + length t = omega (arith, p.place) in
-    (λ i. take (long i) ((p.bytes ∙ ap (λ k. overlay w.out.now k t) front) i)) ∙ take-overlay w.out.now 0 t (omega arith)
+taken : (n k : ℕ) (t : List ℕ) → Ok n ≡ rendered k t → (n ≡ length t) × (length t ≤ k)
+taken n k t h = grind (arith, nat_tests)
+
+-- the bytes that a rendered text took are the text
+pub rendered_text : (room out t : List ℕ) (n : ℕ) → Ok n ≡ rendered (length room) t → out ≡ overlay room 0 t → take n out ≡ t
+rendered_text room out t n answer bytes =
+    let all = taken n (length room) t answer in
+    let long : n ≡ 0 + length t = omega arith in
+    (λ i. take (long i) (bytes i)) ∙ take-overlay room 0 t (omega arith)
+
+-- no signature is longer than its room
+pub signature_line : (d : Description) (n : Naming) → Line 256 (signature_text (form_in d) (name_in n))
+signature_line d n = (Line-signature_text (form_in d) (name_in n) (few_operands (form_in d) d.passed) n.passed).0

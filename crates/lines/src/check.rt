@@ -8,7 +8,7 @@ use forms::naming::Naming;
 use forms::row::{FormRow, NamingRow};
 
 /// A form and its name.
-#[derive(Clone, Copy)]
+#[derive(Clone, Copy, Debug, PartialEq, Eq)]
 pub struct Entry {
     pub description: Description,
     pub naming: Naming,

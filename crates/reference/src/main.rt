@@ -6,36 +6,21 @@ mod replay;
 
 use jobs::command::Command;
 use jobs::command::read::read_command;
-use jobs::fields::cut;
 use replay::differs;
 use std::io;
 use std::io::{BufReader, BufWriter, Read, Write};
 
-// The first line, and what follows it.
-fn line_of<'a>(text: &'a [u8]) -> (&'a [u8], &'a [u8]) {
-    match cut(text, b'\n') {
-        (line, Some(rest)) => (line, rest),
-        (line, None) => (line, b""),
-    }
-}
-
 // Rows are counted from 0. A line that is neither a row nor passed over is a difference too.
-fn run<W: Write>(text: &[u8], out: &mut W) -> io::Result<()> {
+fn run<W: Write>(lines: &[&[u8]], out: &mut W) -> io::Result<()> {
     let mut rows: u64 = 0;
     let mut differences: u64 = 0;
-    let mut rest = text;
-    for _ in 0..u64::MAX {
-        if rest.len() == 0 {
-            break;
-        }
-        let (line, after) = line_of(rest);
-        rest = after;
+    let mut lines = lines.iter().copied();
+    while let Some(line) = lines.next() {
         match read_command(line) {
             Command::Nothing => {}
             Command::Row(form, naming) => {
-                let (op, after) = line_of(rest);
-                let (sig, after) = line_of(after);
-                rest = after;
+                let op = lines.next().unwrap_or(b"");
+                let sig = lines.next().unwrap_or(b"");
                 if differs(out, rows, &form, &naming, op, sig)? {
                     differences += 1;
                 }
@@ -53,9 +38,11 @@ fn run<W: Write>(text: &[u8], out: &mut W) -> io::Result<()> {
 }
 
 fn main(rt: HostRuntime) -> io::Result<()> {
-    let mut text = Vec::new(rt.alloc());
-    BufReader::new(rt.alloc(), rt.stdin())?.read_to_end(&mut text)?;
-    let mut out = BufWriter::new(rt.alloc(), rt.stdout())?;
-    run(text.as_slice(), &mut out)?;
+    let heap = rt.alloc();
+    let mut text = Vec::new(heap);
+    BufReader::new(heap, rt.stdin())?.read_to_end(&mut text)?;
+    let mut out = BufWriter::new(heap, rt.stdout())?;
+    let lines: Vec<&[u8]> = text.split(|b| *b == b'\n').collect(heap)?;
+    run(lines.as_slice(), &mut out)?;
     out.flush()
 }

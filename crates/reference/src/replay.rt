@@ -1,15 +1,14 @@
 // One row, held to its two stored texts.
-ghost use Rattle.std.specs.Prelude.{◌≡◌, ◌++◌, Decides};
+ghost use Rattle.std.specs.Prelude.{◌≡◌, ◌++◌, ◌↔◌, IsTrue};
 
 use forms::row::{FormRow, NamingRow};
-use jobs::reason::reason;
 use lines::{OPCODE_BYTES, SIGNATURE_BYTES, checked, opcode_text, signature_text};
 use std::io;
 use std::io::Write;
 
 // Whether a line is the label and then the text.
 fn says(line: &[u8], label: &[u8], text: &[u8]) -> bool
-    ensures { Decides result (line.now ≡ label.now ++ text.now) }
+    ensures { IsTrue result ↔ (line.now ≡ label.now ++ text.now) }
 {
     match line.strip_prefix(label) {
         Some(rest) => rest == text,
@@ -43,8 +42,7 @@ pub(crate) fn differs<W: Write>(
         }
         Err(fault) => {
             let number = fault.number();
-            let why = reason(fault);
-            writeln!(out, "{k} refused {number}: {why}")?;
+            writeln!(out, "{k} refused {number}: {fault}")?;
         }
     }
     Ok(true)

@@ -20,6 +20,7 @@ fn passed_over(line: &[u8]) -> bool
     blank(line) || (line.len() > 0 && line[0] == b'#')
 }
 
+#[tactic(auto, unfolding(crate::specs::Commands::window_of))]
 fn read_window(from: &[u8], to: &[u8]) -> Option<(u32, u32)>
     ensures { result ≡ window_of from.now to.now }
 {
