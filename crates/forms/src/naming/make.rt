@@ -63,6 +63,7 @@ impl Naming {
         self.option
     }
 
+    // At most 512 is promised here and is no fact in `Memory`: its fields are public, and who builds one would owe it.
     /// The memory operand without broadcast.
     pub fn memory(&self) -> Memory
         ensures value { result ≡ (name_in self.now).memory }
