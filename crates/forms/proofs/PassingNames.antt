@@ -1,10 +1,9 @@
 -- What is known of a naming's row that passes. Assumes nothing.
 use Rattle.std.proofs.Common.{◌≡◌, ℕ, zero, suc, ◌≤◌, Bool, true, false, cond, ◌||◌, List, [], ◌∷◌, length, Some, None, Ok, Err, Result, refl, sym, ap, ◌∙◌, arith}
 use Rattle.std.proofs.lemmas.Bool.Decides.{nat_tests}
-use Rattle.std.proofs.lemmas.Str.{IsUtf8-from_ascii}
-use Rattle.std.specs.Prelude.{if◌then◌else◌, nat_lt, IsUtf8, IsAscii}
+use Rattle.std.specs.Prelude.{if◌then◌else◌, nat_lt}
 use Rattle.std.specs.Result.{is_err}
-use Rattle.forms.specs.Checks.{mnemonic_wrong, all_in_set, memory_outside}
+use Rattle.forms.specs.Checks.{mnemonic_wrong, memory_outside}
 use Rattle.forms.specs.Forms.{answered, decoded}
 use Rattle.forms.specs.Names.{Name, NamePasses, options, option_of, memory_of, memories_from, name_of, named}
 use Rattle.forms.specs.declared.codes.NamingOption.{NamingOption}
@@ -12,18 +11,6 @@ use Rattle.forms.specs.declared.fault.RowFault.{RowFault}
 use Rattle.forms.specs.declared.form.Memory.{Memory}
 use Rattle.forms.specs.declared.row.NamingRow.{NamingRow}
 use Rattle.forms.proofs.Meanings.{past_last, within}
-
-ascii : (t : List ℕ) → all_in_set t ≡ true → IsAscii t
-ascii [] h i = omega arith
-ascii (b ∷ bs) h zero = grind (arith, nat_tests)
-ascii (b ∷ bs) h (suc i) = ascii bs (grind (arith, nat_tests)) i
-
--- a mnemonic that passes is text
-pub mnemonic_text : (t : List ℕ) → mnemonic_wrong t ≡ false → IsUtf8 t
-mnemonic_text t h = IsUtf8-from_ascii t (ascii t (grind (arith, nat_tests)))
-
-pub mnemonic_short : (t : List ℕ) → mnemonic_wrong t ≡ false → length t ≤ 32
-mnemonic_short t h = grind (arith, nat_tests)
 
 -- what a naming that has passed says of its mnemonic and its memories
 module _ (t : List ℕ) (m b : Memory) (p : NamePasses t m b) where

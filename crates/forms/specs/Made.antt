@@ -1,5 +1,5 @@
 -- What descriptions and namings hold. Assumes nothing.
-use Rattle.std.specs.Prelude.{Ok, Err, Result}
+use Rattle.std.specs.Prelude.{take, Ok, Err, Result}
 use Rattle.forms.specs.Names.{Name}
 use Rattle.forms.specs.declared.description.Description.{Description}
 use Rattle.forms.specs.declared.form.Form.{Form}
@@ -9,7 +9,7 @@ abbrev pub form_in : Description → Form
 form_in d = d.form
 
 abbrev pub name_in : Naming → Name
-name_in n = record { mnemonic = n.mnemonic.bytes; option = n.option; memory = n.memory; broadcast = n.broadcast }
+name_in n = record { mnemonic = take n.used n.text; option = n.option; memory = n.memory; broadcast = n.broadcast }
 
 -- What came of making or fetching one.
 abbrev pub form_got : {E : Type 0} → Result Description E → Result Form E

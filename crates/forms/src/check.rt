@@ -7,8 +7,7 @@ use crate::codes::{Encoding, LengthKind, Prefix, Size, Table, Tag, VectorLength}
 use crate::fault::RowFault;
 use crate::form::Flags;
 use crate::operands::{
-    any_absent, any_general_register_or_memory, any_present, any_unknown, kinds_of,
-    seg_rdi_misplaced,
+    any, any_unknown, is_general_register_or_memory, kinds_of, seg_rdi_misplaced,
 };
 use crate::row::{FormRow, NamingRow};
 use kinds::OperandKind;
@@ -38,11 +37,13 @@ fn operands_wrong(kinds: &[OperandKind; 5], count: u32) -> bool
     ensures { result ≡ operands_wrong kinds.now count }
 {
     match kinds.split_at_checked(count as usize) {
-        Some((counted, rest)) => any_absent(counted) || any_present(rest),
+        Some((counted, rest)) => any(counted, OperandKind::is_absent)
+            || any(rest, |kind| !kind.is_absent()),
         None => true,
     }
 }
 
+// Each set has its own word for what is outside it, and so a function that says it.
 fn no_size(bits: u32) -> bool
     ensures { result ≡ no_size bits }
 {
@@ -99,7 +100,7 @@ fn length_wrong(row: &FormRow) -> bool
 fn broadcast_wrong(kinds: &[OperandKind; 5], flags: u16) -> bool
     ensures { result ≡ broadcast_wrong kinds.now flags }
 {
-    Flags::from(flags).broadcast && any_general_register_or_memory(kinds)
+    Flags::from(flags).broadcast && any(kinds, is_general_register_or_memory)
 }
 
 // Checks 1 to 4, one `if` each in their order: answers to be passed on by `?` would say no more.
@@ -144,6 +145,9 @@ fn numbers_fault(row: &FormRow, kinds: &[OperandKind; 5]) -> Option<RowFault>
 }
 
 impl FormRow {
+    // A row is judged first and turned into types after, and not by one chain of `?`: check 1 looks at all codes before check 2
+    // looks at one, and a vector length is refused after sizes, opcode and indices, so a chain would carry half a form from
+    // check to check.
     /// The first check that the row fails, of 1 to 9.
     pub fn check(&self) -> Option<RowFault>
         ensures { result ≡ form_fault self.now }

@@ -1,4 +1,4 @@
-// What the codes of a row stand for, each set in the order of its numbers, from 0.
+// What the codes of a row stand for, each set in the order of its numbers, from 0; a size stands for its bits.
 ghost use Rattle.std.specs.Prelude.{◌≡◌};
 ghost use Rattle.forms.specs.Forms.{decoded, encoding_from, tables, prefixes, length_kinds, lengths, size_from, tags};
 ghost use Rattle.forms.specs.Names.{options, labels};

@@ -1,5 +1,5 @@
 // Why a row is refused.
-ghost use Rattle.std.specs.Prelude.{◌≡◌};
+ghost use Rattle.std.specs.Prelude.{◌≡◌, Some};
 ghost use Rattle.forms.specs.Faults.{fault_number};
 ghost use Rattle.forms.specs.Reasons.{reason_of};
 
@@ -75,6 +75,8 @@ impl RowFault {
 }
 
 impl fmt::Display for RowFault {
+    ghost output = { λ fault. Some (reason_of fault) };
+
     fn fmt<W: fmt::Write>(&self, f: &mut fmt::Formatter<W>) -> fmt::Result {
         f.write_str(self.reason())
     }

@@ -1,23 +1,18 @@
-// What the checks ask of a row's operand kinds. Each chain stands in a function of its own: beside the other tests of a check
-// it leaves that check's goal open.
-ghost use Rattle.std.specs.Prelude.{◌≡◌, not, drop, nat_lt};
+// What the checks ask of a row's operand kinds.
+ghost use Rattle.std.specs.Prelude.{◌≡◌, Bool, drop, nat_lt};
 ghost use Rattle.std.specs.List.{list_any};
-ghost use Rattle.kinds.specs.Kinds.{is_absent, is_seg_rdi};
+ghost use Rattle.kinds.specs.Kinds.{is_seg_rdi};
 ghost use Rattle.forms.specs.Operands.{is_general_register_or_memory, kind_of, kinds_of};
 
 use crate::row::FormRow;
 use kinds::OperandKind;
 
-pub(crate) fn any_absent(kinds: &[OperandKind]) -> bool
-    ensures { result ≡ list_any is_absent kinds.now }
+// Whether one of the items passes the test, which computes some predicate p.
+pub(crate) fn any<T: Copy, F: Fn(T) -> bool>(items: &[T], test: F) -> bool
+    requires { F.IsAlwaysCallable test }
+    ensures { (p : T → Bool) → ((item : T) (b : Bool) → F.post test item b → b ≡ p item) → result ≡ list_any p items.now }
 {
-    kinds.iter().any(|kind| kind.is_absent())
-}
-
-pub(crate) fn any_present(kinds: &[OperandKind]) -> bool
-    ensures { result ≡ list_any (λ kind. not (is_absent kind)) kinds.now }
-{
-    kinds.iter().any(|kind| !kind.is_absent())
+    items.iter().any(|item| test(*item))
 }
 
 // Whether seg_rDI stands elsewhere than at operand 0.
@@ -27,7 +22,7 @@ pub(crate) fn seg_rdi_misplaced(kinds: &[OperandKind]) -> bool
     kinds.iter().skip(1).any(|kind| kind.is_seg_rdi())
 }
 
-fn is_general_register_or_memory(kind: OperandKind) -> bool
+pub(crate) fn is_general_register_or_memory(kind: OperandKind) -> bool
     ensures { result ≡ is_general_register_or_memory kind }
 {
     matches!(
@@ -41,14 +36,7 @@ fn is_general_register_or_memory(kind: OperandKind) -> bool
     )
 }
 
-pub(crate) fn any_general_register_or_memory(kinds: &[OperandKind]) -> bool
-    ensures { result ≡ list_any is_general_register_or_memory kinds.now }
-{
-    kinds
-        .iter()
-        .any(|kind| is_general_register_or_memory(*kind))
-}
-
+// Whether a number is no kind's.
 #[tactic(auto, using(crate::proofs::Meanings::unknown_past))]
 fn is_unknown(code: u32) -> bool
     ensures { result ≡ nat_lt 108 code }
@@ -56,11 +44,11 @@ fn is_unknown(code: u32) -> bool
     OperandKind::try_from(code).is_err()
 }
 
-// Whether a number is no kind's.
+// A function of its own: beside the other codes of check 1 a call of `any` leaves that check's goal open.
 pub(crate) fn any_unknown(codes: &[u32]) -> bool
     ensures { result ≡ list_any (nat_lt 108) codes.now }
 {
-    codes.iter().any(|code| is_unknown(*code))
+    any(codes, is_unknown)
 }
 
 fn kind_of(code: u32) -> OperandKind

@@ -1,5 +1,5 @@
 // The operand kinds, numbered from 0 in the order in which they stand here.
-ghost use Rattle.std.specs.Prelude.{◌≡◌, Some};
+ghost use Rattle.std.specs.Prelude.{◌≡◌, ◌++◌, Some, codes, decimal};
 ghost use Rattle.std.specs.Option.{ok_or};
 ghost use Rattle.kinds.specs.Kinds.{kind_at, place_of};
 
@@ -139,7 +139,7 @@ impl From<OperandKind> for u32 {
 
     #[tactic(auto, using(crate::proofs::Numbers::has_place))]
     fn from(kind: OperandKind) -> u32 {
-        kind.place() as u32
+        kind as u32
     }
 }
 
@@ -158,6 +158,8 @@ impl TryFrom<u32> for OperandKind {
 }
 
 impl fmt::Display for UnknownKind {
+    ghost output = { λ fault. Some (codes "no operand kind has number " ++ decimal fault.0) };
+
     fn fmt<W: fmt::Write>(&self, f: &mut fmt::Formatter<W>) -> fmt::Result {
         write!(f, "no operand kind has number {}", self.0)
     }

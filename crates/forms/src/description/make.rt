@@ -15,6 +15,7 @@ impl Description {
     pub fn from_row(row: &FormRow) -> Result<Description, RowFault>
         ensures { form_got result ≡ described row.now }
     {
+        // `typed` decodes again what the checks have passed; see `FormRow::check` for why the two are apart.
         match row.check() {
             Some(fault) => Err(fault),
             None => Ok(Description { form: typed(row) }),

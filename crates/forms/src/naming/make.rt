@@ -1,6 +1,6 @@
 // How a naming is made, and what it hands out.
-ghost use Rattle.std.specs.Prelude.{◌≡◌, ◌≤◌, false};
-ghost use Rattle.forms.specs.Checks.{mnemonic_wrong, naming_fault};
+ghost use Rattle.std.specs.Prelude.{◌≡◌, ◌≤◌, length, take};
+ghost use Rattle.forms.specs.Checks.{naming_fault};
 ghost use Rattle.forms.specs.Names.{memories_from, named};
 ghost use Rattle.forms.specs.Made.{name_in, name_got};
 
@@ -10,17 +10,15 @@ use crate::codes::NamingOption;
 use crate::fault::RowFault;
 use crate::form::Memory;
 use crate::row::NamingRow;
-use arrayvec::ArrayString;
-use std::str;
 
-// A mnemonic as text; check 10 lets only ASCII pass.
-#[tactic(auto, using(crate::proofs::PassingNames::mnemonic_text, crate::proofs::PassingNames::mnemonic_short))]
-fn text_of(mnemonic: &[u8]) -> ArrayString<32>
-    requires { mnemonic_wrong mnemonic.now ≡ false }
-    ensures { result.bytes ≡ mnemonic.now }
+// The bytes at the front of 32.
+fn padded(bytes: &[u8]) -> [u8; 32]
+    requires { length bytes.now ≤ 32 }
+    ensures { take (length bytes.now) result ≡ bytes.now }
 {
-    let text = str::from_utf8(mnemonic).unwrap();
-    ArrayString::from(text).unwrap()
+    let mut text = [0; 32];
+    text[0..bytes.len()].copy_from_slice(bytes);
+    text
 }
 
 // The memory without broadcast, and that with it.
@@ -43,7 +41,8 @@ impl Naming {
         let option = NamingOption::try_from(row.option)?;
         let (memory, broadcast) = memories(row)?;
         Ok(Naming {
-            mnemonic: text_of(row.mnemonic),
+            text: padded(row.mnemonic),
+            used: row.mnemonic.len(),
             option,
             memory,
             broadcast,
@@ -54,7 +53,7 @@ impl Naming {
     pub fn mnemonic(&self) -> &[u8]
         ensures { result.now ≡ (name_in self.now).mnemonic }
     {
-        self.mnemonic.as_str().as_bytes()
+        &self.text[0..self.used]
     }
 
     /// How the operands are numbered and walked.
@@ -64,6 +63,7 @@ impl Naming {
         self.option
     }
 
+    // At most 512 is promised here and is no fact in `Memory`: its fields are public, and who builds one would owe it.
     /// The memory operand without broadcast.
     pub fn memory(&self) -> Memory
         ensures value { result ≡ (name_in self.now).memory }

@@ -4,5 +4,5 @@ use Rattle.forms.proofs.naming.Naming.from_row.Goals as goal
 
 pub returns : goal.returns
 returns c =
-    whole c.args.row.now c.text_of.result.bytes _ _ c.text_of.ensures (sym c.if-mnemonic_wrong.ensures)
+    whole c.args.row.now _ _ _ c.padded.ensures (sym c.if-mnemonic_wrong.ensures)
     c.in_ok-option.ensures c.in_ok-memory.ensures
