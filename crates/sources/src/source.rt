@@ -8,6 +8,7 @@ ghost use Rattle.sources.specs.Sources.{fetched, most};
 
 use crate::fault::SourceFault;
 use forms::description::Description;
+use forms::entry::Entry;
 use forms::naming::Naming;
 
 /// No source has more entries.
@@ -23,7 +24,7 @@ pub trait Source {
     fn count(&self) -> u32
         ensures { result ≡ length (list self.now) };
 
-    /// The form of an entry.
+    /// The form of an entry; 14 exactly where its number is not below the count.
     fn fetch(&self, n: u32) -> Result<Description, SourceFault>
         ensures { form_got result ≡ fetched (list self.now) n };
 }
@@ -37,11 +38,15 @@ pub trait NamingSource: Source {
         ensures got { name_got result ≡ fetched (names self.now) n }
         ensures within { is_ok result ≡ nat_lt n (length (Self.Source.list self.now)) };
 
-    /// An entry: its form and its name.
-    final fn entry(&self, n: u32) -> Result<(Description, Naming), SourceFault>
+    /// An entry: its form and its name; 14 exactly where its number is not below the count.
+    #[tactic(auto, using(crate::proofs::Fetched::zip_at, crate::proofs::Fetched::no_first, crate::proofs::Fetched::no_second))]
+    final fn entry(&self, n: u32) -> Result<Entry, SourceFault>
         ensures { entry_got result ≡ fetched (zip (Self.Source.list self.now) (names self.now)) n }
     {
-        Ok((self.fetch(n)?, self.fetch_naming(n)?))
+        Ok(Entry {
+            description: self.fetch(n)?,
+            naming: self.fetch_naming(n)?,
+        })
     }
 
     ghost as_long: { (s : Self) → length (names s) ≡ length (Self.Source.list s) };

@@ -1,13 +1,12 @@
 // Generic code over any naming source, on what the traits promise alone, and sources that stand on one another.
 ghost use Rattle.std.specs.Prelude.{◌≡◌};
-ghost use Rattle.forms.specs.Made.{form_in, name_in};
+ghost use Rattle.sources.specs.Entries.{entry_in};
 ghost use Rattle.sources.specs.Front.{front_forms, front_names};
 ghost use Rattle.sources.specs.Shelves.{shelf_forms, shelf_names};
 ghost use Rattle.sources.specs.Sources.{cut, chained};
 ghost use Rattle.tests.specs.Entries.{is_like, alike};
 
-use forms::description::Description;
-use forms::naming::Naming;
+use forms::entry::Entry;
 use forms::row::{FormRow, NamingRow};
 use sources::entries::Entries;
 use sources::front::FrontMatter;
@@ -16,10 +15,10 @@ use sources::shelf::Shelf;
 use sources::source::{NamingSource, Source};
 use sources::window::Window;
 
-fn is_like(description: &Description, naming: &Naming, opcode: u16, letters: usize) -> bool
-    ensures { result ≡ is_like opcode letters (form_in description.now) (name_in naming.now) }
+fn is_like(entry: &Entry, opcode: u16, letters: usize) -> bool
+    ensures { result ≡ is_like opcode letters (entry_in entry.now) }
 {
-    description.form().opcode == opcode && naming.mnemonic().len() == letters
+    entry.description.form().opcode == opcode && entry.naming.mnemonic().len() == letters
 }
 
 /// How many entries have the opcode and a mnemonic of so many letters.
@@ -27,7 +26,7 @@ pub fn count_like<S: NamingSource>(source: &S, opcode: u16, letters: usize) -> u
     ensures { result ≡ alike opcode letters (S.Source.list source.now) (S.NamingSource.names source.now) }
 {
     Entries::of(source)
-        .filter(|(description, naming)| is_like(description, naming, opcode, letters))
+        .filter(|entry| is_like(entry, opcode, letters))
         .count() as u32
 }
 
@@ -123,8 +122,11 @@ mod tests {
     }
 
     // The opcode of an entry, and how many letters its mnemonic has.
-    fn shown_of((description, naming): &(Description, Naming)) -> (u16, usize) {
-        (description.form().opcode, naming.mnemonic().len())
+    fn shown_of(entry: &Entry) -> (u16, usize) {
+        (
+            entry.description.form().opcode,
+            entry.naming.mnemonic().len(),
+        )
     }
 
     fn shown_at<S: NamingSource>(source: &S, n: u32) -> Result<(u16, usize), SourceFault> {
