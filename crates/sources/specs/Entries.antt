@@ -12,3 +12,9 @@ entry_in e = (form_in e.description, name_in e.naming)
 abbrev pub entry_got : {E : Type 0} → Result Entry E → Result (Form × Name) E
 entry_got (Ok e) = Ok (entry_in e)
 entry_got (Err f) = Err f
+
+-- A form beside its name, or the first refusal of the two.
+abbrev pub both : {E : Type 0} → Result Form E → Result Name E → Result (Form × Name) E
+both (Ok f) (Ok m) = Ok (f, m)
+both (Ok f) (Err e) = Err e
+both (Err e) m = Err e

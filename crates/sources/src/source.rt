@@ -3,7 +3,7 @@ ghost use Rattle.std.specs.Prelude.{◌≡◌, ◌≤◌, List, length, is_ok, n
 ghost use Rattle.forms.specs.Made.{form_got, name_got};
 ghost use Rattle.forms.specs.Names.{Name};
 ghost use Rattle.forms.specs.declared.form.Form.{Form};
-ghost use Rattle.sources.specs.Entries.{entry_got};
+ghost use Rattle.sources.specs.Entries.{both, entry_got};
 ghost use Rattle.sources.specs.Sources.{fetched, most};
 
 use crate::fault::SourceFault;
@@ -13,6 +13,19 @@ use forms::naming::Naming;
 
 /// No source has more entries.
 pub const MOST: u32 = 65536;
+
+// An entry of its form and its name, where there are both.
+fn entry_of(
+    description: Result<Description, SourceFault>,
+    naming: Result<Naming, SourceFault>,
+) -> Result<Entry, SourceFault>
+    ensures { entry_got result ≡ both (form_got description) (name_got naming) }
+{
+    Ok(Entry {
+        description: description?,
+        naming: naming?,
+    })
+}
 
 /// What is fetched by its number, from 0.
 pub trait Source {
@@ -39,14 +52,11 @@ pub trait NamingSource: Source {
         ensures within { is_ok result ≡ nat_lt n (length (Self.Source.list self.now)) };
 
     /// An entry: its form and its name; 14 exactly where its number is not below the count.
-    #[tactic(auto, using(crate::proofs::Fetched::zip_at, crate::proofs::Fetched::no_first, crate::proofs::Fetched::no_second))]
+    #[tactic(auto, using(crate::proofs::Fetched::zip_both))]
     final fn entry(&self, n: u32) -> Result<Entry, SourceFault>
         ensures { entry_got result ≡ fetched (zip (Self.Source.list self.now) (names self.now)) n }
     {
-        Ok(Entry {
-            description: self.fetch(n)?,
-            naming: self.fetch_naming(n)?,
-        })
+        entry_of(self.fetch(n), self.fetch_naming(n))
     }
 
     ghost as_long: { (s : Self) → length (names s) ≡ length (Self.Source.list s) };
