@@ -21,7 +21,8 @@ fn is_like(entry: &Entry, opcode: u16, letters: usize) -> bool
     entry.description.form().opcode == opcode && entry.naming.mnemonic().len() == letters
 }
 
-/// How many entries have the opcode and a mnemonic of so many letters.
+/// How many entries have the opcode and a mnemonic of so many letters. The two are plain arguments: each is compared with its
+/// own part of an entry, and nothing else goes with the pair.
 pub fn count_like<S: NamingSource>(source: &S, opcode: u16, letters: usize) -> u32
     ensures { result ≡ alike opcode letters (S.Source.list source.now) (S.NamingSource.names source.now) }
 {
@@ -30,7 +31,7 @@ pub fn count_like<S: NamingSource>(source: &S, opcode: u16, letters: usize) -> u
         .count() as u32
 }
 
-/// The same in a window over the front matter and then a shelf.
+/// How many there are in a window over the front matter and then a shelf.
 pub fn count_in_archive(
     rows: &[FormRow],
     namings: &[NamingRow],
@@ -57,8 +58,10 @@ pub fn count_in_archive(
 #[cfg(test)]
 mod tests {
     use super::*;
+    use crate::checks::PLAIN;
     use forms::fault::RowFault;
-    use forms::row::MemoryRow;
+    use forms::naming::Naming;
+    use forms::row::{MemoryRow, NO_OPERAND};
     use sources::fault::SourceFault;
     use sources::joined_all::JoinedAll;
     use sources::shelf::first_refused;
@@ -68,21 +71,11 @@ mod tests {
     // A legacy form with an opcode of one byte and no operands.
     fn plain(table: u32, opcode: u16) -> FormRow {
         FormRow {
-            encoding: 0,
             table,
-            prefix: 0,
             opcode,
-            bytes: 1,
-            address: 0,
-            operand: 0,
-            length: 0,
-            lkind: 0,
-            flags: 0,
-            group: -1,
-            rm: -1,
-            kinds: [12; 5],
+            kinds: [NO_OPERAND; 5],
             count: 0,
-            tag: 0,
+            ..PLAIN
         }
     }
 
@@ -116,7 +109,7 @@ mod tests {
         ]
     }
 
-    // The number of a refusal, or 0.
+    // The number of the refusal, or 0 for none: a case is then a row of numbers, as a job's answer writes it.
     fn number(answer: Result<(), SourceFault>) -> u32 {
         answer.err().map_or(0, |fault| fault.number())
     }
@@ -133,7 +126,7 @@ mod tests {
         Ok(shown_of(&source.entry(n)?))
     }
 
-    // The entry has this opcode, and a mnemonic of so many letters.
+    // At this number the source has an entry with this opcode and a mnemonic of so many letters.
     fn stands<S: NamingSource>(rt: &impl Abort, source: &S, n: u32, opcode: u16, letters: usize) {
         assert_eq!(rt; shown_at(source, n), Ok((opcode, letters)));
     }
@@ -279,6 +272,24 @@ mod tests {
         for entry in Entries::of(&part) {
             assert!(rt; shown_of(&entry) != (0xf4, 3));
         }
+    }
+
+    fn letters(naming: Naming) -> usize {
+        naming.mnemonic().len()
+    }
+
+    fn opcode_of(entry: Entry) -> u16 {
+        entry.description.form().opcode
+    }
+
+    #[test]
+    fn names_and_entries_are_copied(rt: HostRuntime) {
+        let Ok(entry) = FrontMatter.entry(5) else {
+            panic!(rt);
+        };
+        let naming = entry.naming;
+        assert_eq!(rt; (letters(naming), letters(naming)), (10, 10));
+        assert_eq!(rt; (opcode_of(entry), opcode_of(entry)), (0, 0));
     }
 
     #[test]
