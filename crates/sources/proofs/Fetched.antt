@@ -8,6 +8,8 @@ use Rattle.std.proofs.lemmas.Bool.Decides.{nat_tests}
 use Rattle.forms.specs.Made.{name_got}
 use Rattle.forms.specs.Names.{Name}
 use Rattle.forms.specs.declared.naming.Naming.{Naming}
+use Rattle.forms.specs.declared.form.Form.{Form}
+use Rattle.sources.specs.Entries.{both}
 use Rattle.sources.specs.Sources.{fetched, most}
 use Rattle.sources.specs.declared.fault.SourceFault.{SourceFault}
 use Rattle.sources.specs.declared.fault.SourceFault.TheVariants.{NoEntry}
@@ -93,24 +95,16 @@ module _ {X Y : Type 0} (xs : List X) (ys : List Y) where
   zip_below n e h = omega (arith, fetched_below (zip xs ys) n e, length-zip xs ys)
 
 -- two lists at one place: what stands there in both, or the end of either
-module _ {X Y : Type 0} where
-  pub zip_at : (xs : List X) (ys : List Y) (n : ℕ) {x : X} {y : Y} → Ok x ≡ fetched xs n → Ok y ≡ fetched ys n → Ok (x, y) ≡ fetched (zip xs ys) n
-  zip_at [] ys n e h = absurd (never e)
-  zip_at (x ∷ xs) [] n e h = absurd (never h)
-  zip_at (x ∷ xs) (y ∷ ys) zero e h = λ i. Ok (same e i, same h i)
-  zip_at (x ∷ xs) (y ∷ ys) (suc n) e h = zip_at xs ys n e h
+no_names : (fs : List Form) (n : ℕ) → both (fetched fs n) (Err NoEntry) ≡ Err NoEntry
+no_names [] n = refl
+no_names (f ∷ fs) zero = refl
+no_names (f ∷ fs) (suc n) = no_names fs n
 
-  pub no_first : (xs : List X) (ys : List Y) (n : ℕ) {f : SourceFault} → Err f ≡ fetched xs n → Err f ≡ fetched (zip xs ys) n
-  no_first [] ys n e = ap Err (ended e)
-  no_first (x ∷ xs) [] n e = ap Err (only_end (x ∷ xs) n e)
-  no_first (x ∷ xs) (y ∷ ys) zero e = absurd (never (sym e))
-  no_first (x ∷ xs) (y ∷ ys) (suc n) e = no_first xs ys n e
-
-  pub no_second : (xs : List X) (ys : List Y) (n : ℕ) {f : SourceFault} → Err f ≡ fetched ys n → Err f ≡ fetched (zip xs ys) n
-  no_second [] ys n e = ap Err (only_end ys n e)
-  no_second (x ∷ xs) [] n e = ap Err (ended e)
-  no_second (x ∷ xs) (y ∷ ys) zero e = absurd (never (sym e))
-  no_second (x ∷ xs) (y ∷ ys) (suc n) e = no_second xs ys n e
+pub zip_both : (fs : List Form) (ms : List Name) (n : ℕ) → both (fetched fs n) (fetched ms n) ≡ fetched (zip fs ms) n
+zip_both [] ms n = refl
+zip_both (f ∷ fs) [] n = no_names (f ∷ fs) n
+zip_both (f ∷ fs) (m ∷ ms) zero = refl
+zip_both (f ∷ fs) (m ∷ ms) (suc n) = zip_both fs ms n
 
 same_kind : (r : Result Naming SourceFault) → is_ok r ≡ is_ok (name_got r)
 same_kind (Ok n) = refl

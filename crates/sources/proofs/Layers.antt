@@ -2,6 +2,8 @@
 use Rattle.std.proofs.Common.{◌≡◌, ℕ, ◌+◌, ◌-◌, ◌<◌, ◌≤◌, List, ◌++◌, length, take, drop, Ok, Err, sym, ap, ◌∙◌, arith, length-append, length-drop, length-take}
 use Rattle.std.proofs.lemmas.Bool.{le-leb, and_from, cond-true}
 use Rattle.std.proofs.lemmas.Bool.Decides.{nat_tests}
+use Rattle.std.specs.Result.{result_unwrap_or}
+use Rattle.sources.specs.JoinedAll.{total_of}
 use Rattle.sources.specs.Places.{window_count, window_place, joined_count, joined_place}
 use Rattle.sources.specs.Sources.{fetched, checked, cut, chained, most}
 use Rattle.sources.specs.declared.fault.SourceFault.{SourceFault}
@@ -42,8 +44,11 @@ module _ {X : Type 0} (xs ys : List X) where
   whole : length xs + length ys ≤ most → length (chained xs ys) ≡ length xs + length ys
   whole h = ap length (chained_is h) ∙ length-append xs ys
 
-  pub length-chained : length (chained xs ys) ≡ joined_count (length xs) (length ys)
-  length-chained = grind (arith, nat_tests, whole)
+  pub length_chained : length (chained xs ys) ≡ joined_count (length xs) (length ys)
+  length_chained = grind (arith, nat_tests, whole)
+
+  pub total_chained : result_unwrap_or (total_of (length xs + length ys)) 0 ≡ length (chained xs ys)
+  total_chained = grind (arith, nat_tests, length_chained)
 
   module _ (n first second : ℕ) (k : first ≡ length xs) (l : second ≡ length ys) where
     in_first : {p : ℕ} → Ok (First p) ≡ joined_place first second n → (length xs + length ys ≤ most) × (n < length xs) × (p ≡ n)
@@ -63,7 +68,7 @@ module _ {X : Type 0} (xs ys : List X) where
         sym (ap (λ zs. fetched zs n) (chained_is w.0) ∙ ap (fetched (xs ++ ys)) w.1 ∙ fetched_right xs ys p)
 
     in_neither : {x : SourceFault} → Err x ≡ joined_place first second n → (length (chained xs ys) ≤ n) × (x ≡ SourceFault.NoEntry)
-    in_neither e = grind (arith, nat_tests, length-chained)
+    in_neither e = grind (arith, nat_tests, length_chained)
 
     pub not_in_chained : {x : SourceFault} → Err x ≡ joined_place first second n → Err x ≡ fetched (chained xs ys) n
     not_in_chained e = let w = in_neither e in let past = fetched_past (chained xs ys) n w.0 in cc

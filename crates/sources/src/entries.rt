@@ -5,8 +5,7 @@ ghost use Rattle.sources.specs.Entries.{entry_in};
 ghost use Rattle.sources.specs.Sources.{most};
 
 use crate::source::NamingSource;
-use forms::description::Description;
-use forms::naming::Naming;
+use forms::entry::Entry;
 use std::marker::Model;
 
 /// The entries of a source from the next one on, each a form and its name.
@@ -38,13 +37,13 @@ impl<'a, S: NamingSource> Entries<'a, S> {
 }
 
 impl<'a, S: NamingSource> Iterator for Entries<'a, S> {
-    type Item = (Description, Naming);
+    type Item = Entry;
 
     ghost next_gives = { YieldsFirstBy entry_in (λ left. left) };
 
     ghost remaining = { item_count (λ left. left) };
 
-    fn next(&mut self) -> Option<(Description, Naming)> {
+    fn next(&mut self) -> Option<Entry> {
         let Ok(entry) = self.source.entry(self.next) else {
             return None;
         };

@@ -1,5 +1,5 @@
 // The refusals of sources.
-ghost use Rattle.std.specs.Prelude.{◌≡◌};
+ghost use Rattle.std.specs.Prelude.{◌≡◌, Some};
 ghost use Rattle.sources.specs.Faults.{number_of, text_of};
 ghost use Rattle.sources.specs.declared.fault.SourceFault.TheVariants.{Row};
 
@@ -55,6 +55,8 @@ impl SourceFault {
 }
 
 impl fmt::Display for SourceFault {
+    ghost output = { λ fault. Some (text_of fault) };
+
     fn fmt<W: fmt::Write>(&self, f: &mut fmt::Formatter<W>) -> fmt::Result {
         f.write_str(self.reason())
     }

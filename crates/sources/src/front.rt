@@ -9,14 +9,11 @@ use crate::source::{NamingSource, Source};
 use forms::codes::Tag;
 use forms::description::Description;
 use forms::naming::Naming;
-use forms::row::{FormRow, MemoryRow, NamingRow};
-use kinds::OperandKind;
+use forms::row::{FormRow, MemoryRow, NO_OPERAND, NamingRow};
 
 /// The source of the six.
 #[derive(Clone, Copy, Debug, PartialEq, Eq)]
 pub struct FrontMatter;
-
-const NO_KIND: u32 = OperandKind::Absent as u32;
 
 const NO_MEMORY: MemoryRow = MemoryRow { label: 0, size: 0 };
 
@@ -48,7 +45,7 @@ fn pseudo_row(tag: u32) -> FormRow
         flags: 0,
         group: 0,
         rm: 0,
-        kinds: [NO_KIND; 5],
+        kinds: [NO_OPERAND; 5],
         count: 0,
         tag,
     }

@@ -1,7 +1,8 @@
 // The entries of one source, and then those of another.
-ghost use Rattle.std.specs.Prelude.{◌≡◌, ◌≤◌, length};
-ghost use Rattle.sources.specs.Places.{joined_count, joined_place};
-ghost use Rattle.sources.specs.Sources.{most, chained, check_joined};
+ghost use Rattle.std.specs.Prelude.{◌≡◌, ◌+◌, length};
+ghost use Rattle.sources.specs.JoinedAll.{total_of};
+ghost use Rattle.sources.specs.Places.{joined_place};
+ghost use Rattle.sources.specs.Sources.{chained, check_joined};
 ghost use Rattle.sources.specs.Lengths.{chained_short, chains_as_long};
 
 use crate::fault::SourceFault;
@@ -21,11 +22,19 @@ impl<A: Source, B: Source> Joined<A, B> {
     pub fn check(&self) -> Result<(), SourceFault>
         ensures { result ≡ check_joined (length (A.Source.list self.now.first)) (length (B.Source.list self.now.second)) }
     {
-        if self.first.count() + self.second.count() <= MOST {
-            Ok(())
-        } else {
-            Err(SourceFault::TooManyEntries)
+        self.total()?;
+        Ok(())
+    }
+
+    // How many entries both sources have together.
+    fn total(&self) -> Result<u32, SourceFault>
+        ensures { result ≡ total_of (length (A.Source.list self.now.first) + length (B.Source.list self.now.second)) }
+    {
+        let total = self.first.count() + self.second.count();
+        if total > MOST {
+            return Err(SourceFault::TooManyEntries);
         }
+        Ok(total)
     }
 }
 
@@ -37,25 +46,14 @@ pub(crate) enum Side {
     Second(u32),
 }
 
-// How many entries two sources of so many have together.
-fn total(first: u32, second: u32) -> u32
-    requires { (first ≤ most) × (second ≤ most) }
-    ensures { result ≡ joined_count first second }
-{
-    if first + second <= MOST {
-        first + second
-    } else {
-        0
-    }
-}
-
 impl<A: Source, B: Source> Joined<A, B> {
     // Where entry n stands.
+    #[tactic(auto, using(crate::proofs::Layers::length_chained))]
     fn place(&self, n: u32) -> Result<Side, SourceFault>
         ensures { result ≡ joined_place (length (A.Source.list self.now.first)) (length (B.Source.list self.now.second)) n }
     {
         let first = self.first.count();
-        if n >= total(first, self.second.count()) {
+        if n >= self.count() {
             Err(SourceFault::NoEntry)
         } else if n < first {
             Ok(Side::First(n))
@@ -71,7 +69,7 @@ impl<A: Source, B: Source> Source for Joined<A, B> {
     ghost short = { λ j. chained_short (A.Source.list j.first) (B.Source.list j.second) };
 
     fn count(&self) -> u32 {
-        total(self.first.count(), self.second.count())
+        self.total().unwrap_or(0)
     }
 
     fn fetch(&self, n: u32) -> Result<Description, SourceFault> {

@@ -1,5 +1,7 @@
 // Rows in the caller's memory, as a source.
 ghost use Rattle.std.specs.Prelude.{◌≡◌, length};
+ghost use Rattle.std.specs.Iterator.Adapters.{enumerate_source, enumerate_count, zip_first, zip_second};
+ghost use Rattle.std.specs.Slice.Iter.{iter_rest};
 ghost use Rattle.sources.specs.Shelves.{pairs, first_refused, check_shelf, shelf_forms, shelf_names};
 ghost use Rattle.sources.specs.Lengths.{shelf_short, shelves_as_long};
 
@@ -10,6 +12,8 @@ use forms::description::Description;
 use forms::fault::RowFault;
 use forms::naming::Naming;
 use forms::row::{FormRow, NamingRow};
+use std::iter::{Enumerate, Zip};
+use std::slice::Iter;
 
 /// The rows of forms and those of their names; the two at one place are a pair. Two slices, since the caller's lists may
 /// differ in length.
@@ -28,11 +32,23 @@ fn pairs(rows: &[FormRow], namings: &[NamingRow]) -> usize
     rows.len().min(namings.len())
 }
 
+// The pairs of rows, each with its place.
+fn placed_pairs<'r, 't>(
+    rows: &'r [FormRow],
+    namings: &'r [NamingRow<'t>],
+) -> Enumerate<Zip<Iter<'r, FormRow>, Iter<'r, NamingRow<'t>>>>
+    ensures rows { iter_rest (zip_first (enumerate_source result)) ≡ rows.now }
+    ensures namings { iter_rest (zip_second (enumerate_source result)) ≡ namings.now }
+    ensures start { enumerate_count result ≡ 0 }
+{
+    rows.iter().zip(namings).enumerate()
+}
+
 /// The place and the fault of the first pair of rows that fails a check.
 pub fn first_refused(rows: &[FormRow], namings: &[NamingRow]) -> Option<(usize, RowFault)>
     ensures { result ≡ first_refused rows.now namings.now }
 {
-    for (place, (row, naming)) in rows.iter().zip(namings).enumerate() {
+    for (place, (row, naming)) in placed_pairs(rows, namings) {
         if let Some(fault) = check_pair(row, naming) {
             return Some((place, fault));
         }

@@ -3,15 +3,29 @@ ghost use Rattle.std.specs.Prelude.{◌≡◌, ◌≤◌, List, length, is_ok, n
 ghost use Rattle.forms.specs.Made.{form_got, name_got};
 ghost use Rattle.forms.specs.Names.{Name};
 ghost use Rattle.forms.specs.declared.form.Form.{Form};
-ghost use Rattle.sources.specs.Entries.{entry_got};
+ghost use Rattle.sources.specs.Entries.{both, entry_got};
 ghost use Rattle.sources.specs.Sources.{fetched, most};
 
 use crate::fault::SourceFault;
 use forms::description::Description;
+use forms::entry::Entry;
 use forms::naming::Naming;
 
 /// No source has more entries.
 pub const MOST: u32 = 65536;
+
+// An entry of its form and its name, where there are both.
+fn entry_of(
+    description: Result<Description, SourceFault>,
+    naming: Result<Naming, SourceFault>,
+) -> Result<Entry, SourceFault>
+    ensures { entry_got result ≡ both (form_got description) (name_got naming) }
+{
+    Ok(Entry {
+        description: description?,
+        naming: naming?,
+    })
+}
 
 /// What is fetched by its number, from 0.
 pub trait Source {
@@ -23,7 +37,7 @@ pub trait Source {
     fn count(&self) -> u32
         ensures { result ≡ length (list self.now) };
 
-    /// The form of an entry.
+    /// The form of an entry; 14 exactly where its number is not below the count.
     fn fetch(&self, n: u32) -> Result<Description, SourceFault>
         ensures { form_got result ≡ fetched (list self.now) n };
 }
@@ -37,11 +51,12 @@ pub trait NamingSource: Source {
         ensures got { name_got result ≡ fetched (names self.now) n }
         ensures within { is_ok result ≡ nat_lt n (length (Self.Source.list self.now)) };
 
-    /// An entry: its form and its name.
-    final fn entry(&self, n: u32) -> Result<(Description, Naming), SourceFault>
+    /// An entry: its form and its name; 14 exactly where its number is not below the count.
+    #[tactic(auto, using(crate::proofs::Fetched::zip_both))]
+    final fn entry(&self, n: u32) -> Result<Entry, SourceFault>
         ensures { entry_got result ≡ fetched (zip (Self.Source.list self.now) (names self.now)) n }
     {
-        Ok((self.fetch(n)?, self.fetch_naming(n)?))
+        entry_of(self.fetch(n), self.fetch_naming(n))
     }
 
     ghost as_long: { (s : Self) → length (names s) ≡ length (Self.Source.list s) };

@@ -9,7 +9,8 @@ use crate::source::{NamingSource, Source};
 use forms::description::Description;
 use forms::naming::Naming;
 
-/// The entries from `from` up to, without, `to`. Two numbers and no range: a window may be made that starts after its end.
+/// The entries from `from` up to, without, `to`. Two numbers, since std's `Range`
+/// is not `Copy`, and a window is.
 #[derive(Clone, Copy, Debug, PartialEq, Eq, Drop)]
 pub struct Window<S> {
     pub source: S,
@@ -29,7 +30,7 @@ impl<S: Source> Window<S> {
         }
     }
 
-    // The number below of entry n.
+    // The number that entry n has in the source below.
     fn place(&self, n: u32) -> Result<u32, SourceFault>
         ensures { result ≡ window_place (length (S.Source.list self.now.source)) self.now.from self.now.to n }
     {

@@ -4,9 +4,9 @@ use Rattle.forms.specs.Names.{Name}
 use Rattle.forms.specs.declared.form.Form.{Form}
 
 -- The entry has the opcode, and a mnemonic of so many letters.
-abbrev pub is_like : ℕ → ℕ → Form → Name → Bool
-is_like opcode letters f m = f.opcode == opcode && length m.mnemonic == letters
+abbrev pub is_like : ℕ → ℕ → Form × Name → Bool
+is_like opcode letters e = e.0.opcode == opcode && length e.1.mnemonic == letters
 
 -- How many of the entries, each a form and its name, are so.
 abbrev pub alike : ℕ → ℕ → List Form → List Name → ℕ
-alike opcode letters fs ms = count_by (λ e. is_like opcode letters e.0 e.1) (zip fs ms)
+alike opcode letters fs ms = count_by (is_like opcode letters) (zip fs ms)

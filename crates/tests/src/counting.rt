@@ -1,13 +1,12 @@
 // Generic code over any naming source, on what the traits promise alone, and sources that stand on one another.
 ghost use Rattle.std.specs.Prelude.{◌≡◌};
-ghost use Rattle.forms.specs.Made.{form_in, name_in};
+ghost use Rattle.sources.specs.Entries.{entry_in};
 ghost use Rattle.sources.specs.Front.{front_forms, front_names};
 ghost use Rattle.sources.specs.Shelves.{shelf_forms, shelf_names};
 ghost use Rattle.sources.specs.Sources.{cut, chained};
 ghost use Rattle.tests.specs.Entries.{is_like, alike};
 
-use forms::description::Description;
-use forms::naming::Naming;
+use forms::entry::Entry;
 use forms::row::{FormRow, NamingRow};
 use sources::entries::Entries;
 use sources::front::FrontMatter;
@@ -16,22 +15,23 @@ use sources::shelf::Shelf;
 use sources::source::{NamingSource, Source};
 use sources::window::Window;
 
-fn is_like(description: &Description, naming: &Naming, opcode: u16, letters: usize) -> bool
-    ensures { result ≡ is_like opcode letters (form_in description.now) (name_in naming.now) }
+fn is_like(entry: &Entry, opcode: u16, letters: usize) -> bool
+    ensures { result ≡ is_like opcode letters (entry_in entry.now) }
 {
-    description.form().opcode == opcode && naming.mnemonic().len() == letters
+    entry.description.form().opcode == opcode && entry.naming.mnemonic().len() == letters
 }
 
-/// How many entries have the opcode and a mnemonic of so many letters.
+/// How many entries have the opcode and a mnemonic of so many letters. The two are plain arguments: each is compared with its
+/// own part of an entry, and nothing else goes with the pair.
 pub fn count_like<S: NamingSource>(source: &S, opcode: u16, letters: usize) -> u32
     ensures { result ≡ alike opcode letters (S.Source.list source.now) (S.NamingSource.names source.now) }
 {
     Entries::of(source)
-        .filter(|(description, naming)| is_like(description, naming, opcode, letters))
+        .filter(|entry| is_like(entry, opcode, letters))
         .count() as u32
 }
 
-/// The same in a window over the front matter and then a shelf.
+/// How many there are in a window over the front matter and then a shelf.
 pub fn count_in_archive(
     rows: &[FormRow],
     namings: &[NamingRow],
@@ -58,8 +58,10 @@ pub fn count_in_archive(
 #[cfg(test)]
 mod tests {
     use super::*;
+    use crate::checks::PLAIN;
     use forms::fault::RowFault;
-    use forms::row::MemoryRow;
+    use forms::naming::Naming;
+    use forms::row::{MemoryRow, NO_OPERAND};
     use sources::fault::SourceFault;
     use sources::joined_all::JoinedAll;
     use sources::shelf::first_refused;
@@ -69,21 +71,11 @@ mod tests {
     // A legacy form with an opcode of one byte and no operands.
     fn plain(table: u32, opcode: u16) -> FormRow {
         FormRow {
-            encoding: 0,
             table,
-            prefix: 0,
             opcode,
-            bytes: 1,
-            address: 0,
-            operand: 0,
-            length: 0,
-            lkind: 0,
-            flags: 0,
-            group: -1,
-            rm: -1,
-            kinds: [12; 5],
+            kinds: [NO_OPERAND; 5],
             count: 0,
-            tag: 0,
+            ..PLAIN
         }
     }
 
@@ -117,21 +109,24 @@ mod tests {
         ]
     }
 
-    // The number of a refusal, or 0.
+    // The number of the refusal, or 0 for none: a case is then a row of numbers, as a job's answer writes it.
     fn number(answer: Result<(), SourceFault>) -> u32 {
         answer.err().map_or(0, |fault| fault.number())
     }
 
     // The opcode of an entry, and how many letters its mnemonic has.
-    fn shown_of((description, naming): &(Description, Naming)) -> (u16, usize) {
-        (description.form().opcode, naming.mnemonic().len())
+    fn shown_of(entry: &Entry) -> (u16, usize) {
+        (
+            entry.description.form().opcode,
+            entry.naming.mnemonic().len(),
+        )
     }
 
     fn shown_at<S: NamingSource>(source: &S, n: u32) -> Result<(u16, usize), SourceFault> {
         Ok(shown_of(&source.entry(n)?))
     }
 
-    // The entry has this opcode, and a mnemonic of so many letters.
+    // At this number the source has an entry with this opcode and a mnemonic of so many letters.
     fn stands<S: NamingSource>(rt: &impl Abort, source: &S, n: u32, opcode: u16, letters: usize) {
         assert_eq!(rt; shown_at(source, n), Ok((opcode, letters)));
     }
@@ -277,6 +272,24 @@ mod tests {
         for entry in Entries::of(&part) {
             assert!(rt; shown_of(&entry) != (0xf4, 3));
         }
+    }
+
+    fn letters(naming: Naming) -> usize {
+        naming.mnemonic().len()
+    }
+
+    fn opcode_of(entry: Entry) -> u16 {
+        entry.description.form().opcode
+    }
+
+    #[test]
+    fn names_and_entries_are_copied(rt: HostRuntime) {
+        let Ok(entry) = FrontMatter.entry(5) else {
+            panic!(rt);
+        };
+        let naming = entry.naming;
+        assert_eq!(rt; (letters(naming), letters(naming)), (10, 10));
+        assert_eq!(rt; (opcode_of(entry), opcode_of(entry)), (0, 0));
     }
 
     #[test]

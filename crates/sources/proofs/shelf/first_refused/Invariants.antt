@@ -5,4 +5,4 @@ use Rattle.sources.proofs.shelf.first_refused.Given as goal
 
 -- What is left decides.
 abbrev pub invariant-loop-place : goal.invariant-loop-place
-invariant-loop-place l = first_refused l.rows l.namings ≡ refused_among (left_after (length l.yielded) l.rows l.namings)
+invariant-loop-place l = first_refused l.fn.rows l.fn.namings ≡ refused_among (left_after (length l.yielded) l.fn.rows l.fn.namings)

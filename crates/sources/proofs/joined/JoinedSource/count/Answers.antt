@@ -1,6 +1,8 @@
-use Rattle.std.proofs.Common.{rules}
-use Rattle.sources.proofs.Layers.{length-chained}
+use Rattle.std.proofs.Common.{ap, ◌∙◌}
+use Rattle.std.specs.Result.{result_unwrap_or}
+use Rattle.sources.proofs.Layers.{total_chained}
 use Rattle.sources.proofs.joined.JoinedSource.count.Goals as goal
 
 pub returns : goal.returns
-returns g c = search (rules, length-chained)
+returns g c =
+    c.unwrap_or.ensures ∙ ap (λ r. result_unwrap_or r 0) c.total.ensures ∙ total_chained (g.A.Source.list c.args.self.now.first) (g.B.Source.list c.args.self.now.second)
