@@ -1,5 +1,5 @@
 // Which numbers and letters the registers of a signature get: what is decided before the operands are walked, and the counts
-// that give each register its rank as they are.
+// that give each register its rank as the operands are walked.
 #![tactic(auto)]
 
 pub mod decide;

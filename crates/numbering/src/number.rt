@@ -19,6 +19,8 @@ pub struct Counts {
 }
 
 /// What gives the registers of a signature their numbers and letters, in the order in which they are named.
+// Both are one byte, and no enum tells them apart: the counter says which it is, and a text prints it right after the
+// register's name.
 #[derive(Clone, Copy, Debug, PartialEq, Eq)]
 pub struct Numbering {
     pub plan: Plan,
@@ -108,6 +110,7 @@ impl Numbering {
     }
 
     /// What stands right after the name of a register of this class. `place` is its operand's.
+    // Each counter has a method of its own; the walk of the operands asks for the one that a kind's class names.
     pub fn next(&mut self, counter: Counter, place: Rank) -> Option<u8>
         ensures value { result ≡ next_label self.old counter place }
         ensures moved { self.new ≡ moved_on counter self.old }

@@ -41,7 +41,8 @@ impl OpCodeFormatter<'_> {
     }
 }
 
-/// Prints the opcode string, a line of 1 to 96 bytes.
+/// Prints the opcode string, a line of 1 to 96 bytes. A fault comes where it does not fit, and its first bytes take what
+/// places are left.
 #[tactic(auto, using(crate::proofs::Lines::opcode_line, crate::proofs::Lines::opcode_some), unfolding(crate::specs::OpcodeText::opcode_text))]
 pub fn print_opcode(w: &mut Writer, description: &Description) -> Result<(), WriteFault>
     ensures text { Wrote w.old (opcode_text (form_in description.now)) w.new result }
@@ -52,7 +53,7 @@ pub fn print_opcode(w: &mut Writer, description: &Description) -> Result<(), Wri
 }
 
 /// The opcode string as a piece.
-#[derive(Clone, Copy)]
+#[derive(Clone, Copy, Debug, PartialEq, Eq)]
 pub struct OpcodeString<'a>(pub &'a Description);
 
 impl Piece for OpcodeString<'_> {

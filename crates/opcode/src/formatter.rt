@@ -3,6 +3,8 @@ use forms::description::Description;
 use forms::form::Form;
 use kinds::OperandKind;
 
+// No ghost field says that the operands are those counted in the form: the texts are defined over a form and its operands,
+// so a clause would name both all the same.
 #[derive(Clone, Copy)]
 pub(crate) struct OpCodeFormatter<'a> {
     pub form: Form,

@@ -1,10 +1,11 @@
 // The opcode string of a legacy form: the parts of its head in the order in which they are read.
-ghost use Rattle.std.specs.Prelude.{◌≡◌};
+ghost use Rattle.std.specs.Prelude.{◌≡◌, Some};
+ghost use Rattle.text.specs.Texts.{when};
 ghost use Rattle.opcode.specs.Heads.{address_text, operand_text, rex_text, register_text};
 
 use crate::formatter::OpCodeFormatter;
 use crate::op_code::OpCode;
-use crate::words::{Spaced, append_table, mandatory_prefix};
+use crate::words::{append_table, mandatory_prefix, spaced};
 use forms::codes::Size;
 use kinds::{Role, Width};
 use text::pieces;
@@ -34,25 +35,21 @@ fn operand_size(size: Size) -> Text<'static>
 }
 
 // REX.W, after the mandatory prefix.
-fn rex_w(size: Size) -> Text<'static>
-    ensures { result.0.now ≡ rex_text size }
+fn rex_w(size: Size) -> When<Text<'static>>
+    ensures { when result.0 result.1.0.now ≡ rex_text size }
 {
-    if size == Size::S64 {
-        Text(b"o64 ")
-    } else {
-        Text(b"")
-    }
+    When(size == Size::S64, Text(b"o64 "))
 }
 
-fn op_code_bits(register: Option<Width>) -> Text<'static>
-    ensures { result.0.now ≡ register_text register }
+// The register in the low bits of the opcode, by its width.
+fn op_code_bits(width: Width) -> Text<'static>
+    ensures { result.0.now ≡ register_text (Some width) }
 {
-    match register {
-        None => Text(b""),
-        Some(Width::W8) => Text(b"+rb"),
-        Some(Width::W16) => Text(b"+rw"),
-        Some(Width::W32) => Text(b"+rd"),
-        Some(Width::W64) => Text(b"+ro"),
+    match width {
+        Width::W8 => Text(b"+rb"),
+        Width::W16 => Text(b"+rw"),
+        Width::W32 => Text(b"+rd"),
+        Width::W64 => Text(b"+ro"),
     }
 }
 
@@ -70,17 +67,18 @@ impl OpCodeFormatter<'_> {
             When(form.flags.fwait, Text(b"9B ")),
             address_size(form.address),
             operand_size(form.operand),
-            Spaced(mandatory_prefix(form.prefix)),
+            spaced(mandatory_prefix(form.prefix)),
             rex_w(form.operand),
-            Spaced(first),
-            Spaced(second),
+            spaced(first),
+            spaced(second),
             OpCode(form),
-            op_code_bits(self.get_op_code_bits_operand()),
+            self.get_op_code_bits_operand().map(op_code_bits),
             When(self.has(Role::is_sti), Text(b"+i"))
         )
         .print(w)
     }
 
+    // 3DNow! has no rest, so each of the others adds it to a head of its own.
     pub fn format_legacy(&self, w: &mut Writer) -> Result<(), WriteFault>
         ensures { Wrote w.old (legacy_text self.now.form self.now.operands.now) w.new result }
     {

@@ -1,6 +1,6 @@
 // The ModRM part: field by field where the form asks for that, else in brief.
 ghost use Rattle.std.specs.Prelude.{◌≡◌};
-ghost use Rattle.opcode.specs.Rest.{bits_text, mod_text, info_text, slash_text};
+ghost use Rattle.opcode.specs.Rest.{bits_text, mod_text, info_text};
 
 use crate::formatter::OpCodeFormatter;
 use forms::codes::Encoding;
@@ -56,21 +56,6 @@ impl Piece for ModRmInfo {
     }
 }
 
-// The group, or else r where that is shown.
-#[derive(Clone, Copy)]
-struct Slash(Option<u8>, bool);
-
-impl Piece for Slash {
-    ghost spelled = { λ x. slash_text x.0 x.1 };
-
-    fn print(self, w: &mut Writer) -> Result<(), WriteFault> {
-        match self.0 {
-            Some(group) => pieces!(Text(b" /"), Decimal(group as u32)).print(w),
-            None => When(self.1, Text(b" /r")).print(w),
-        }
-    }
-}
-
 impl OpCodeFormatter<'_> {
     ghost use Rattle.kinds.specs.Roles.{is_memory};
     ghost use Rattle.text.specs.Wrote.{Wrote};
@@ -120,7 +105,10 @@ impl OpCodeFormatter<'_> {
             return self.get_modrm_info().print(w);
         }
         let vsib = self.has_vsib();
-        let slash = Slash(self.form.group, !vsib && self.has_mod_rm());
-        pieces!(slash, When(vsib, Text(b" /vsib"))).print(w)
+        let indices = When(vsib, Text(b" /vsib"));
+        match self.form.group {
+            Some(group) => pieces!(Text(b" /"), Decimal(u32::from(group)), indices).print(w),
+            None => pieces!(When(!vsib && self.has_mod_rm(), Text(b" /r")), indices).print(w),
+        }
     }
 }

@@ -5,7 +5,7 @@ ghost use Rattle.opcode.specs.Heads.{dotted, vector_length, dotted_prefix, w_tex
 
 use crate::formatter::OpCodeFormatter;
 use crate::op_code::OpCode;
-use crate::words::{Dotted, append_table, mandatory_prefix};
+use crate::words::{append_table, dotted, mandatory_prefix};
 use forms::codes::{LengthKind, Prefix, VectorLength};
 use forms::form::{Flags, Form};
 use text::pieces;
@@ -31,13 +31,13 @@ fn vector_length(form: &Form) -> Text<'static>
 }
 
 // NP is left out.
-fn dotted_prefix(prefix: Prefix) -> Dotted
-    ensures { dotted (option_copied result.0) ≡ dotted_prefix prefix }
+fn dotted_prefix(prefix: Prefix) -> Option<&'static [u8]>
+    ensures { dotted (option_copied result) ≡ dotted_prefix prefix }
 {
     if prefix == Prefix::Pnp {
-        Dotted(None)
+        None
     } else {
-        Dotted(mandatory_prefix(prefix))
+        mandatory_prefix(prefix)
     }
 }
 
@@ -68,8 +68,8 @@ impl OpCodeFormatter<'_> {
             Text(name),
             Text(b"."),
             vector_length(form),
-            dotted_prefix(form.prefix),
-            Dotted(first),
+            dotted(dotted_prefix(form.prefix)),
+            dotted(first),
             second.map(Text),
             w_bit(form.flags),
             Text(b" "),

@@ -1,41 +1,24 @@
 // The words of a head that legacy forms set apart by spaces, and VEX, EVEX and XOP forms by dots.
-ghost use Rattle.std.specs.Prelude.{◌≡◌};
-ghost use Rattle.std.specs.Option.{option_copied};
+ghost use Rattle.std.specs.Prelude.{◌≡◌, ◌++◌, []};
+ghost use Rattle.std.specs.Option.{option_copied, option_map_or};
 ghost use Rattle.opcode.specs.Heads.{spaced, dotted, prefix_word, table_words};
 
 use forms::codes::{Prefix, Table};
 use text::pieces;
-use text::pieces::{Piece, Text};
-use text::writer::{WriteFault, Writer};
+use text::pieces::Text;
 
 // A word and a space, or nothing.
-#[derive(Clone, Copy)]
-pub(crate) struct Spaced(pub Option<&'static [u8]>);
-
-// A dot and a word, or nothing.
-#[derive(Clone, Copy)]
-pub(crate) struct Dotted(pub Option<&'static [u8]>);
-
-impl Piece for Spaced {
-    ghost spelled = { λ x. spaced (option_copied x.0) };
-
-    fn print(self, w: &mut Writer) -> Result<(), WriteFault> {
-        match self.0 {
-            Some(word) => pieces!(Text(word), Text(b" ")).print(w),
-            None => w.text(b""),
-        }
-    }
+pub(crate) fn spaced(word: Option<&'static [u8]>) -> Option<(Text<'static>, Text<'static>)>
+    ensures { option_map_or (λ p. p.0.0.now ++ p.1.0.now) result [] ≡ spaced (option_copied word.entry) }
+{
+    Some(pieces!(Text(word?), Text(b" ")))
 }
 
-impl Piece for Dotted {
-    ghost spelled = { λ x. dotted (option_copied x.0) };
-
-    fn print(self, w: &mut Writer) -> Result<(), WriteFault> {
-        match self.0 {
-            Some(word) => pieces!(Text(b"."), Text(word)).print(w),
-            None => w.text(b""),
-        }
-    }
+// A dot and a word, or nothing.
+pub(crate) fn dotted(word: Option<&'static [u8]>) -> Option<(Text<'static>, Text<'static>)>
+    ensures { option_map_or (λ p. p.0.0.now ++ p.1.0.now) result [] ≡ dotted (option_copied word.entry) }
+{
+    Some(pieces!(Text(b"."), Text(word?)))
 }
 
 // The prefix byte in hexadecimal, or NP where there may be none.
@@ -52,6 +35,8 @@ pub(crate) fn mandatory_prefix(prefix: Prefix) -> Option<&'static [u8]>
 }
 
 // The table's name, or its one or two bytes in hexadecimal.
+// Two options, of which no table has the second alone: each head sets each word apart in its own way, and would take an
+// option of a word and maybe another apart again.
 pub(crate) fn append_table(table: Table) -> (Option<&'static [u8]>, Option<&'static [u8]>)
     ensures { (option_copied result.0, option_copied result.1) ≡ table_words table }
 {

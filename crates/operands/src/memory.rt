@@ -111,7 +111,7 @@ impl Piece for MemoryText {
     }
 }
 
-// The width of a general register.
+// The width of a general register in bits.
 pub(crate) fn bits(width: Width) -> u32
     ensures { result ≡ width_bits width }
 {

@@ -11,10 +11,11 @@ use text::pieces::{Byte, Decimal, Piece, Text};
 use text::writer::{WriteFault, Writer};
 
 /// `label` is the number or letter right after the register's name.
-#[derive(Clone, Copy)]
+#[derive(Clone, Copy, Debug, PartialEq, Eq)]
 pub struct Operand {
     pub setting: Setting,
     pub class: Class,
+    // A number or an ASCII letter, and no enum of both: the class says which it is, and such an enum could say the other.
     pub label: Option<u8>,
 }
 

@@ -4,7 +4,7 @@ use forms::form::Flags;
 use numbering::plan::Plan;
 
 /// A memory's label, and its size in bits.
-#[derive(Clone, Copy)]
+#[derive(Clone, Copy, Debug, PartialEq, Eq)]
 pub struct MemoryBits {
     pub label: MemoryLabel,
     pub bits: u32,
@@ -12,7 +12,7 @@ pub struct MemoryBits {
 
 /// `memory` and `element` are the normal and the broadcast memory; `last` is how many operands stand before {sae} and {er},
 /// the one that they follow included.
-#[derive(Clone, Copy)]
+#[derive(Clone, Copy, Debug, PartialEq, Eq)]
 pub struct Setting {
     pub tag: Tag,
     pub flags: Flags,

@@ -1,5 +1,5 @@
 -- The text of what one operand adds. Assumes nothing.
-use Rattle.std.proofs.Common.{◌≡◌, ℕ, Bool, true, false, cond, ◌&&◌, List, [], ◌++◌, Some, None, codes, Option, refl, ap, ◌∙◌}
+use Rattle.std.proofs.Common.{◌≡◌, ℕ, Bool, true, false, cond, ◌&&◌, List, [], ◌++◌, Some, None, codes, Option, sym, refl, ap, ◌∙◌, append_assoc}
 use Rattle.std.specs.Option.{option_map_or}
 use Rattle.text.specs.Texts.{when}
 use Rattle.kinds.specs.Rows.{class_of}
@@ -42,13 +42,20 @@ operand_spelled s label number follows place k =
     (spelled-given s (masked_at s place && s.flags.zeroing) zeroing _
     ∙ (λ i. both (masked_at s place) s.flags.zeroing (codes "{z}") i ++ ends s (last_at s place) s.flags.sae s.flags.rounding i)))
 
-pub mask_as : (b : Bool) (n : ℕ) → option_map_or (λ (m : Mask). mask_text m.0) (cond b (Some (record { 0 = n })) None) [] ≡ when b (mask_text n)
-mask_as true n = refl
-mask_as false n = refl
+pub mask_as : (b z : Bool) (n : ℕ) → option_map_or (λ (m : Mask). mask_text m.number ++ when m.zeroing (codes "{z}")) (cond b (Some (record { number = n; zeroing = z })) None) [] ≡ when b (mask_text n ++ when z (codes "{z}"))
+mask_as true z n = refl
+mask_as false z n = refl
+
+-- the mask and {z} come together
+together : (b : Bool) (t u r : List ℕ) → when b t ++ (when b u ++ r) ≡ when b (t ++ u) ++ r
+together true t u r = sym (append_assoc t u r)
+together false t u r = refl
 
 -- what is printed is that text
-pub as_printed : (s : Setting) (label : Option ℕ) (number : ℕ) (follows : Bool) (place : ℕ) (k : OperandKind) {c : Class} {l : Option ℕ} {m : List ℕ} {b d : Bool}
-    → c ≡ class_of k → l ≡ label → m ≡ when (masked_at s place) (mask_text number) → b ≡ masked_at s place → d ≡ last_at s place
+pub as_printed : (s : Setting) (label : Option ℕ) (number : ℕ) (follows : Bool) (place : ℕ) (k : OperandKind) {c : Class} {l : Option ℕ} {m : List ℕ} {d : Bool}
+    → c ≡ class_of k → l ≡ label → m ≡ when (masked_at s place) (mask_text number ++ when s.flags.zeroing (codes "{z}")) → d ≡ last_at s place
     → spelled s (operand_pieces s label number follows place k)
-    ≡ when follows (codes ", ") ++ (operand_text s c l ++ (m ++ (when b (when s.flags.zeroing (codes "{z}")) ++ when d (when s.flags.sae (codes "{sae}") ++ when s.flags.rounding (codes "{er}")))))
-as_printed s label number follows place k is_c is_l is_m is_b is_d = cc (operand_spelled s label number follows place k)
+    ≡ when follows (codes ", ") ++ (operand_text s c l ++ (m ++ when d (when s.flags.sae (codes "{sae}") ++ when s.flags.rounding (codes "{er}"))))
+as_printed s label number follows place k is_c is_l is_m is_d =
+    let e = together (masked_at s place) (mask_text number) (when s.flags.zeroing (codes "{z}")) (when (last_at s place) (when s.flags.sae (codes "{sae}") ++ when s.flags.rounding (codes "{er}"))) in
+    cc (operand_spelled s label number follows place k, e)

@@ -1,10 +1,11 @@
 // One operand of a signature with what stands before and after it.
-ghost use Rattle.std.specs.Prelude.{◌≡◌, ◌+◌, ◌==◌, false, not, [], ◌∷◌, if◌then◌else◌, Some, None};
+ghost use Rattle.std.specs.Prelude.{◌≡◌, ◌+◌, ◌==◌, false, not, [], ◌∷◌, ◌++◌, codes, if◌then◌else◌, Some, None};
 ghost use Rattle.kinds.specs.Kinds.{is_seg_rdi};
 ghost use Rattle.numbering.specs.Counts.{start, moved_on, moved_by, next_label, next_mask};
 ghost use Rattle.signature.specs.Masks.{mask_text};
 ghost use Rattle.signature.specs.Pieces.{spelled};
 ghost use Rattle.signature.specs.Walk.{last_at, masked_at, names, next_pieces};
+ghost use Rattle.text.specs.Texts.{when};
 ghost use Rattle.text.specs.Wrote.{Wrote};
 
 use kinds::{Counter, OperandKind};
@@ -15,15 +16,19 @@ use text::pieces;
 use text::pieces::{Decimal, Piece, Text, When};
 use text::writer::{WriteFault, Writer};
 
-/// The mask that follows operand 0, by its number.
+/// The mask that follows operand 0, by its number, and {z} after it where it is zeroing.
 #[derive(Clone, Copy)]
-struct Mask(u8);
+struct Mask {
+    number: u8,
+    zeroing: bool,
+}
 
 impl Piece for Mask {
-    ghost spelled = { λ x. mask_text x.0 };
+    ghost spelled = { λ x. mask_text x.number ++ when x.zeroing (codes "{z}") };
 
     fn print(self, w: &mut Writer) -> Result<(), WriteFault> {
-        pieces!(Text(b" {k"), Decimal(u32::from(self.0)), Text(b"}")).print(w)
+        let mask = pieces!(Text(b" {k"), Decimal(u32::from(self.number)), Text(b"}"));
+        pieces!(mask, When(self.zeroing, Text(b"{z}"))).print(w)
     }
 }
 
@@ -69,14 +74,17 @@ impl Walk {
         masked: bool,
     ) -> (Option<u8>, Option<Mask>)
         ensures label { result.0 ≡ next_label self.old.numbering counter place }
-        ensures mask { result.1 ≡ (if masked then Some (record { 0 = next_mask (moved_on counter self.old.numbering) }) else None) }
+        ensures mask { result.1 ≡ (if masked then Some (record { number = next_mask (moved_on counter self.old.numbering); zeroing = self.old.setting.flags.zeroing }) else None) }
         ensures moved { self.new ≡ record self.old {
           numbering = moved_by (counter ∷ (if masked then Counter.Mask ∷ [] else [])) self.old.numbering;
         } }
     {
         let label = self.numbering.next(counter, place);
         let mask = if masked {
-            Some(Mask(self.numbering.next_mask()))
+            Some(Mask {
+                number: self.numbering.next_mask(),
+                zeroing: self.setting.flags.zeroing,
+            })
         } else {
             None
         };
@@ -114,7 +122,6 @@ impl Walk {
                 label
             },
             mask,
-            When(masked, When(setting.flags.zeroing, Text(b"{z}"))),
             When(
                 last,
                 pieces!(

@@ -13,6 +13,7 @@ use text::pieces;
 use text::pieces::{Piece, Text, Upper, When};
 use text::writer::{WriteFault, Writer};
 
+// The first clause of `print_signature`, which is of what is written; the others are of the text alone.
 fn print_text(w: &mut Writer, description: &Description, naming: &Naming) -> Result<(), WriteFault>
     ensures { Wrote w.old (signature_text (form_in description.now) (name_in naming.now)) w.new result }
 {
@@ -26,8 +27,8 @@ fn print_text(w: &mut Writer, description: &Description, naming: &Naming) -> Res
     print_operands(w, setting, start_of(option), kinds)
 }
 
-/// The signature of a form under a name, into lent bytes: a line of 1 to 256 bytes, in which the numbers of a class of
-/// registers differ and letters run without a gap.
+/// Prints the signature of a form under a name: a line of 1 to 256 bytes, in which the numbers of a class of registers differ
+/// and letters run without a gap. A fault comes where it does not fit, and its first bytes take what places are left.
 pub fn print_signature(
     w: &mut Writer,
     description: &Description,
@@ -42,7 +43,7 @@ pub fn print_signature(
 }
 
 /// The signature as a piece.
-#[derive(Clone, Copy)]
+#[derive(Clone, Copy, Debug, PartialEq, Eq)]
 pub struct SignatureText<'a> {
     pub description: &'a Description,
     pub naming: &'a Naming,

@@ -59,9 +59,10 @@ pub(crate) fn setting_of(description: &Description, naming: &Naming) -> Setting
 pub(crate) fn start_of(option: NamingOption) -> usize
     ensures { result ≡ start_of option }
 {
-    match option {
-        NamingOption::SkipOp0 => 1,
-        _ => 0,
+    if option == NamingOption::SkipOp0 {
+        1
+    } else {
+        0
     }
 }
 

@@ -11,6 +11,7 @@ use crate::writer::{WriteFault, Writer};
 pub trait Piece: Drop {
     ghost spelled: { Self → List ℕ };
 
+    /// Writes the text. A fault comes where it does not fit, and its first bytes take what places are left.
     fn print(self, w: &mut Writer) -> Result<(), WriteFault>
         ensures { Wrote w.old (spelled self) w.new result };
 }
@@ -36,7 +37,7 @@ pub struct Decimal(pub u32);
 pub struct Upper<'a>(pub &'a [u8]);
 
 /// The piece where the flag is set, else nothing.
-// Beside `Option<P>`: a flag is a rule of the notation, and a printer's pieces read in the order of the text.
+// In place of `flag.then_some(piece)`: its text is `when flag`, the word in which the texts are defined, with no option between.
 #[derive(Debug, PartialEq, Eq, Drop)]
 pub struct When<P>(pub bool, pub P);
 
@@ -109,6 +110,7 @@ impl<P: Piece> Piece for Option<P> {
     }
 }
 
+// `print` of a slice, with a clause on the items alone: the loop keeps what is left of them.
 fn print_each<P: Piece + Copy>(w: &mut Writer, items: &[P]) -> Result<(), WriteFault>
     ensures { Wrote w.old (flat_map P.Piece.spelled items.now) w.new result }
 {
@@ -118,6 +120,7 @@ fn print_each<P: Piece + Copy>(w: &mut Writer, items: &[P]) -> Result<(), WriteF
     Ok(())
 }
 
+// `print` of a pair that is taken apart, so that its clause speaks of the two pieces.
 fn print_both<A: Piece, B: Piece>(w: &mut Writer, a: A, b: B) -> Result<(), WriteFault>
     ensures { Wrote w.old (A.Piece.spelled a ++ B.Piece.spelled b) w.new result }
 {

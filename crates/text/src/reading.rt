@@ -16,7 +16,8 @@ fn digit_in(base: u32, b: u8) -> Option<u32>
     (value < base).then_some(value)
 }
 
-// Not std's `from_str_radix`: it also takes a sign and lower-case digits.
+// Not std's `from_str_radix`: it also takes a sign and lower-case digits. And no `try_fold`: that the sum fits rests on how
+// many digits are read, which a closure from a number and a digit does not know.
 fn number(base: u32, t: &[u8]) -> Option<u32>
     requires { (base ≤ 16) × (length t.now ≤ 5) }
     ensures value { result ≡ number_of base t.now }
@@ -49,7 +50,7 @@ pub fn read_decimal(t: &[u8]) -> Option<u32>
     decimal(t)
 }
 
-/// The same, or `-1`; none for any other text.
+/// One to five decimal digits without leading zeros, or `-1`; none for any other text.
 pub fn read_index(t: &[u8]) -> Option<i32>
     ensures { result ≡ index_of t.now }
 {

@@ -15,5 +15,5 @@ returns-clause-wrote c =
     Wrote_as _ c.print.ensures
     (as_printed s _ _ c.args.self.now.follows c.args.place c.args.kind c.class-class.ensures
     (c.next_labels-label.ensures.label ∙ ap (λ k. next_label n k c.args.place) counter)
-    (rw (c.next_labels-label.ensures.mask, c.masked_at-masked.ensures, counter) (mask_as (masked_at s c.args.place) (next_mask (moved_on (counter_at c.args.kind) n))))
-    c.masked_at-masked.ensures c.last_at-last.ensures)
+    (rw (c.next_labels-label.ensures.mask, c.masked_at-masked.ensures, counter) (mask_as (masked_at s c.args.place) s.flags.zeroing (next_mask (moved_on (counter_at c.args.kind) n))))
+    c.last_at-last.ensures)
