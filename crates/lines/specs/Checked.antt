@@ -3,11 +3,11 @@ use Rattle.std.specs.Prelude.{Ok, Err, Result}
 use Rattle.forms.specs.Forms.{described}
 use Rattle.forms.specs.Made.{form_in, name_in}
 use Rattle.forms.specs.Names.{Name, named}
+use Rattle.forms.specs.declared.entry.Entry.{Entry}
 use Rattle.forms.specs.declared.fault.RowFault.{RowFault}
 use Rattle.forms.specs.declared.form.Form.{Form}
 use Rattle.forms.specs.declared.row.FormRow.{FormRow}
 use Rattle.forms.specs.declared.row.NamingRow.{NamingRow}
-use Rattle.lines.specs.declared.check.Entry.{Entry}
 
 -- the form and the name, or else why there is no form, or else why there is no name
 abbrev pub both : Result Form RowFault → Result Name RowFault → Result (Form × Name) RowFault

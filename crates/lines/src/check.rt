@@ -3,16 +3,10 @@ ghost use Rattle.std.specs.Prelude.{◌≡◌};
 ghost use Rattle.lines.specs.Checked.{both_got, both_of};
 
 use forms::description::Description;
+use forms::entry::Entry;
 use forms::fault::RowFault;
 use forms::naming::Naming;
 use forms::row::{FormRow, NamingRow};
-
-/// A form and its name.
-#[derive(Clone, Copy, Debug, PartialEq, Eq)]
-pub struct Entry {
-    pub description: Description,
-    pub naming: Naming,
-}
 
 /// What a row and its naming stand for, or the first check that fails, of 1 to 11.
 pub fn checked(row: &FormRow, naming: &NamingRow) -> Result<Entry, RowFault>

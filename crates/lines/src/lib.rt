@@ -4,5 +4,6 @@
 mod check;
 mod texts;
 
-pub use check::{Entry, checked};
+pub use check::checked;
+pub use forms::entry::Entry;
 pub use texts::{OPCODE_BYTES, SIGNATURE_BYTES, opcode_text, signature_text};

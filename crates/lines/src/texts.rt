@@ -1,4 +1,5 @@
-// A text printed into a room that is large enough for every text of its kind.
+// A text printed into a room that is large enough for every text of its kind: fixed memory that the caller lends, since
+// texts are printed without a heap.
 ghost use Rattle.std.specs.Prelude.{◌≡◌, ◌≤◌, length};
 ghost use Rattle.forms.specs.Made.{form_in, name_in};
 ghost use Rattle.opcode.specs.OpcodeText.{opcode_text};
