@@ -29,6 +29,7 @@ pub(crate) fn stretches<'a, const MOST: usize>(
 ) -> Option<ArrayVec<&'a [u8], MOST>>
     ensures { option_map (λ v. texts_in v.items) result ≡ split_up_to MOST at text.now }
 {
+    // By `cut`, since a `for` over std's `split` gets no proof beside a const parameter.
     let mut found = ArrayVec::new();
     let mut rest = Some(text);
     while let Some(left) = rest {

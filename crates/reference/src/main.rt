@@ -12,6 +12,7 @@ use std::io::{BufReader, BufWriter, Read, Write};
 
 // Rows are counted from 0. A line that is neither a row nor passed over is a difference too.
 fn run<W: Write>(lines: &[&[u8]], out: &mut W) -> io::Result<()> {
+    // Counted by hand, since a row takes three lines, and a line that is no row is counted too.
     let mut rows: u64 = 0;
     let mut differences: u64 = 0;
     let mut lines = lines.iter().copied();
