@@ -103,7 +103,7 @@ fn broadcast_wrong(kinds: &[OperandKind; 5], flags: u16) -> bool
     Flags::from(flags).broadcast && any(kinds, is_general_register_or_memory)
 }
 
-// Checks 1 to 4, one `if` each in their order: answers to be passed on by `?` would say no more.
+// Checks 1 to 4, one `if` each in their order.
 fn operands_fault(row: &FormRow, kinds: &[OperandKind; 5]) -> Option<RowFault>
     ensures { result ≡ operands_fault row.now kinds.now }
 {

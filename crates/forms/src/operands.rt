@@ -15,7 +15,8 @@ pub(crate) fn any<T: Copy, F: Fn(T) -> bool>(items: &[T], test: F) -> bool
     items.iter().any(|item| test(*item))
 }
 
-// Whether seg_rDI stands elsewhere than at operand 0.
+// Whether seg_rDI stands elsewhere than at operand 0. A chain with a `skip`, as `any` of a part of the array leaves the goal of
+// check 4 open.
 pub(crate) fn seg_rdi_misplaced(kinds: &[OperandKind]) -> bool
     ensures { result ≡ list_any is_seg_rdi (drop 1 kinds.now) }
 {

@@ -8,6 +8,8 @@ use crate::form::{Flags, Form};
 use crate::operands::kinds_of;
 use crate::row::FormRow;
 
+// Check 7 asks whether an index is one, and this which; a `Result` of an `Option` for both would be opened by `is_err` there
+// and by `unwrap` here.
 fn index_of(index: i32) -> Option<u8>
     requires { index_outside index ≡ false }
     ensures { result ≡ index_of index }
@@ -15,7 +17,8 @@ fn index_of(index: i32) -> Option<u8>
     u8::try_from(index).ok()
 }
 
-// The sizes that the form fixes: of its address, and of its operand.
+// The sizes that the form fixes: of its address, and of its operand. Apart from `typed`, where each `unwrap` makes the goals
+// of those after it longer.
 #[tactic(auto, using(crate::proofs::Meanings::size_within))]
 fn fixed_sizes(row: &FormRow) -> (Size, Size)
     requires address { no_size row.now.address ≡ false }
