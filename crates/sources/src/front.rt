@@ -18,16 +18,16 @@ pub struct FrontMatter;
 const NO_MEMORY: MemoryRow = MemoryRow { label: 0, size: 0 };
 
 // The tag and the mnemonic of each, in their order.
-static ENTRIES: [(u32, &[u8]); 6] = [
-    (Tag::Invalid as u32, b"INVALID"),
-    (Tag::DeclareByte as u32, b"DeclareByte"),
-    (Tag::DeclareWord as u32, b"DeclareWord"),
-    (Tag::DeclareDword as u32, b"DeclareDword"),
-    (Tag::DeclareQword as u32, b"DeclareQword"),
-    (Tag::ZeroBytes as u32, b"Zero_bytes"),
+static ENTRIES: [(Tag, &[u8]); 6] = [
+    (Tag::Invalid, b"INVALID"),
+    (Tag::DeclareByte, b"DeclareByte"),
+    (Tag::DeclareWord, b"DeclareWord"),
+    (Tag::DeclareDword, b"DeclareDword"),
+    (Tag::DeclareQword, b"DeclareQword"),
+    (Tag::ZeroBytes, b"Zero_bytes"),
 ];
 
-// The row of a form with a tag, an opcode of one byte, no operands, and all else 0.
+// The row of a form with a tag, by its code as a row has it, an opcode of one byte, no operands, and all else 0.
 fn pseudo_row(tag: u32) -> FormRow
     requires { tag < 7 }
     ensures { described result ≡ Ok (pseudo_form (tag_of tag)) }
@@ -51,13 +51,14 @@ fn pseudo_row(tag: u32) -> FormRow
     }
 }
 
-// The tag and the mnemonic of an entry.
+// The code of the tag and the mnemonic of an entry.
 fn entry(n: u32) -> (u32, &'static [u8])
     requires { n < 6 }
     ensures tag { result.0 ≡ n + 1 }
     ensures mnemonic { result.1.now ≡ (slice_index_or front_names n (pseudo_name (codes "INVALID"))).mnemonic }
 {
-    ENTRIES[n as usize]
+    let (tag, mnemonic) = ENTRIES[n as usize];
+    (tag as u32, mnemonic)
 }
 
 impl Source for FrontMatter {

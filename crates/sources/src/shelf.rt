@@ -21,6 +21,7 @@ use std::slice::Iter;
 pub struct Shelf<'r, 'n, 't> {
     rows: &'r [FormRow],
     namings: &'n [NamingRow<'t>],
+    // How many entries there are: none where the check refuses, and only `check` says why.
     count: u32,
     ghost counted: { count ≡ length (shelf_forms rows.now namings.now) },
 }
@@ -48,6 +49,7 @@ fn placed_pairs<'r, 't>(
 pub fn first_refused(rows: &[FormRow], namings: &[NamingRow]) -> Option<(usize, RowFault)>
     ensures { result ≡ first_refused rows.now namings.now }
 {
+    // A loop: what std states of `find_map` is about a run of the iterator, and no lemma leads from one to these pairs.
     for (place, (row, naming)) in placed_pairs(rows, namings) {
         if let Some(fault) = check_pair(row, naming) {
             return Some((place, fault));

@@ -42,7 +42,8 @@ pub trait Source {
         ensures { form_got result ≡ fetched (list self.now) n };
 }
 
-/// A source whose entries are named: a second list, as long as the first.
+/// A source whose entries are named: a second list, as long as the first. The two lists are fetched apart, since a naming
+/// source stands above a source, and whoever asks for forms alone needs no names.
 pub trait NamingSource: Source {
     ghost names: { Self → List Name };
 
