@@ -66,7 +66,8 @@ pub(crate) fn open<W: Write>(heap: Global, job: &Job, out: &mut W) -> io::Result
     }
 }
 
-// The command `entries`: the texts of each entry. A refused archive has none.
+// The command `entries`: the texts of each entry. A refused archive has none. `open` has the same frame: a function that
+// takes the act would hand its closure an archive that borrows a list made inside of it, which is no plainer.
 pub(crate) fn entries<W: Write>(heap: Global, job: &Job, out: &mut W) -> io::Result<()> {
     let shelves = shelves(heap, job)?;
     let archive = assemble(job.opening, &shelves);

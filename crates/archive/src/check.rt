@@ -2,11 +2,12 @@
 use crate::job::{Job, Segment};
 use forms::check::check_pair;
 use forms::fault::RowFault;
+use sources::shelf::{Shelf, first_refused};
 use sources::source::Source;
 use std::io;
 use std::io::Write;
 
-// `K refused N: REASON`
+// `K refused N: REASON`. The program `reference` says this too: one line of its own is shorter than a call across crates.
 pub(crate) fn refused<W: Write>(out: &mut W, k: usize, fault: RowFault) -> io::Result<()> {
     let number = fault.number();
     writeln!(out, "{k} refused {number}: {fault}")
@@ -14,36 +15,30 @@ pub(crate) fn refused<W: Write>(out: &mut W, k: usize, fault: RowFault) -> io::R
 
 fn check_rows<W: Write>(job: &Job, out: &mut W) -> io::Result<()> {
     let (rows, namings) = (job.rows.as_slice(), job.namings.as_slice());
+    // Counted as the answers are printed, so that each row is checked once.
+    let mut failed: usize = 0;
     for (k, (row, naming)) in rows.iter().zip(namings).enumerate() {
         match check_pair(row, naming) {
-            Some(fault) => refused(out, k, fault)?,
+            Some(fault) => {
+                refused(out, k, fault)?;
+                failed += 1;
+            }
             None => writeln!(out, "{k} accepted")?,
         }
     }
     let count = rows.len();
-    let failed = rows
-        .iter()
-        .zip(namings)
-        .filter(|(row, naming)| check_pair(row, naming).is_some())
-        .count();
     let accepted = count - failed;
     writeln!(out, "{count} rows, {accepted} accepted, {failed} refused")
 }
 
 fn check_segment<W: Write>(job: &Job, segment: &Segment, out: &mut W) -> io::Result<()> {
-    let refused = job
-        .rows
-        .iter()
-        .zip(&job.namings)
-        .enumerate()
-        .skip(segment.places.start)
-        .take(segment.places.len())
-        .find_map(|(k, (row, naming))| check_pair(row, naming).map(|fault| (k, fault)));
-    if let Some((k, fault)) = refused {
+    let (rows, namings) = job.parts(segment);
+    if let Some((place, fault)) = first_refused(rows, namings) {
         let number = fault.number();
+        let k = segment.places.start.saturating_add(place);
         return writeln!(out, ": refused {number} at row {k}");
     }
-    let shelf = job.shelf(segment);
+    let shelf = Shelf::new(rows, namings);
     match shelf.check() {
         Ok(()) => {
             let count = shelf.count();

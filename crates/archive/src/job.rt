@@ -61,10 +61,17 @@ impl<'a> Job<'a> {
         Ok(())
     }
 
-    pub(crate) fn shelf<'s>(&'s self, segment: &Segment) -> Shelf<'s, 's, 'a> {
+    // The rows and the namings of a segment.
+    pub(crate) fn parts<'s>(&'s self, segment: &Segment) -> (&'s [FormRow], &'s [NamingRow<'a>]) {
         let Range { start, end } = segment.places;
-        let rows = part(self.rows.as_slice(), start..end);
-        let namings = part(self.namings.as_slice(), start..end);
+        (
+            part(self.rows.as_slice(), start..end),
+            part(self.namings.as_slice(), start..end),
+        )
+    }
+
+    pub(crate) fn shelf<'s>(&'s self, segment: &Segment) -> Shelf<'s, 's, 'a> {
+        let (rows, namings) = self.parts(segment);
         Shelf::new(rows, namings)
     }
 }

@@ -13,7 +13,7 @@ use std::alloc::Global;
 use std::io;
 use std::io::{BufReader, BufWriter, Read, Write};
 
-// Performs the command of one line.
+// Performs the command of one line. The heap goes beside the job, which holds only what its lines said.
 fn perform<'a, W: Write>(
     heap: Global,
     job: &mut Job<'a>,

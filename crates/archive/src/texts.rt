@@ -1,8 +1,7 @@
 // The two texts of a form, as the commands `texts` and `entries` print them.
 use crate::check::refused;
 use crate::job::Job;
-use forms::description::Description;
-use forms::naming::Naming;
+use forms::entry::Entry;
 use lines::{OPCODE_BYTES, SIGNATURE_BYTES, checked, opcode_text, signature_text};
 use sources::entries::Entries;
 use sources::source::NamingSource;
@@ -10,18 +9,17 @@ use std::io;
 use std::io::Write;
 
 // `K op=TEXT` and `K sig=TEXT`
-fn print_texts<W: Write>(
-    out: &mut W,
-    k: usize,
-    description: &Description,
-    naming: &Naming,
-) -> io::Result<()> {
+fn print_texts<W: Write>(out: &mut W, k: usize, entry: &Entry) -> io::Result<()> {
     let mut opcode = [0; OPCODE_BYTES];
     let mut signature = [0; SIGNATURE_BYTES];
     write!(out, "{k} op=")?;
-    out.write_all(opcode_text(&mut opcode, description))?;
+    out.write_all(opcode_text(&mut opcode, &entry.description))?;
     write!(out, "\n{k} sig=")?;
-    out.write_all(signature_text(&mut signature, description, naming))?;
+    out.write_all(signature_text(
+        &mut signature,
+        &entry.description,
+        &entry.naming,
+    ))?;
     out.write_all(b"\n")
 }
 
@@ -29,7 +27,7 @@ fn print_texts<W: Write>(
 pub(crate) fn texts<W: Write>(job: &Job, out: &mut W) -> io::Result<()> {
     for (k, (row, naming)) in job.rows.iter().zip(&job.namings).enumerate() {
         match checked(row, naming) {
-            Ok(entry) => print_texts(out, k, &entry.description, &entry.naming)?,
+            Ok(entry) => print_texts(out, k, &entry)?,
             Err(fault) => refused(out, k, fault)?,
         }
     }
@@ -39,7 +37,11 @@ pub(crate) fn texts<W: Write>(job: &Job, out: &mut W) -> io::Result<()> {
 // The texts of each entry of a source.
 pub(crate) fn entries<S: NamingSource, W: Write>(source: &S, out: &mut W) -> io::Result<()> {
     for (k, (description, naming)) in Entries::of(source).enumerate() {
-        print_texts(out, k, &description, &naming)?;
+        let entry = Entry {
+            description,
+            naming,
+        };
+        print_texts(out, k, &entry)?;
     }
     Ok(())
 }

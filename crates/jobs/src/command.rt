@@ -10,6 +10,7 @@ pub struct Opening {
     pub window: Option<(u32, u32)>,
 }
 
+/// What a line of a job asks for, or the row that it spells.
 #[derive(Clone, Copy, Debug, PartialEq, Eq)]
 pub enum Command<'a> {
     /// A blank line, or one that begins with `#`.

@@ -5,16 +5,14 @@ ghost use Rattle.jobs.specs.Fields.{texts_in};
 ghost use Rattle.jobs.specs.Rows.{code_of, five_kinds, form_of, index, kinds_of, memory_of, name_row, naming_of, number, row_in, row_of, rows_seen};
 
 use crate::fields::stretches;
-use forms::row::{FormRow, MemoryRow, NamingRow};
-use kinds::OperandKind;
+use forms::row::{FormRow, MemoryRow, NO_OPERAND, NamingRow};
 use text::reading::{read_decimal, read_hex2, read_hex4, read_index};
 
 /// How many fields a row has.
 pub(crate) const FIELDS: usize = 18;
 
-// The code of the kind that stands for no operand.
-const NO_OPERAND: u32 = OperandKind::Absent as u32;
-
+// Fields are read by the words of specs/Rows: with `read_decimal` and `read_index` in `read_form`, the check finds no proof
+// of so many fields.
 #[tactic(auto, unfolding(crate::specs::Rows::number))]
 fn number(text: &[u8]) -> Option<u32>
     ensures { result ≡ number text.now }
@@ -29,12 +27,13 @@ fn index(text: &[u8]) -> Option<i32>
     read_index(text)
 }
 
+// The code and its length, two fields of a row, where any numbers may stand.
 #[tactic(auto, unfolding(crate::specs::Rows::code_of))]
 fn read_code(text: &[u8]) -> Option<(u16, u32)>
     ensures { result ≡ code_of text.now }
 {
     if text.len() == 2 {
-        Some((read_hex2(text)? as u16, 1))
+        Some((u16::from(read_hex2(text)?), 1))
     } else {
         Some((read_hex4(text)?, 2))
     }
@@ -52,6 +51,7 @@ fn five_kinds(listed: &[&[u8]]) -> Option<[u32; 5]>
     Some(kinds)
 }
 
+// The kinds and how many of them are listed, two fields of a row, where any numbers may stand.
 #[tactic(auto, unfolding(crate::specs::Rows::kinds_of))]
 fn read_kinds(text: &[u8]) -> Option<([u32; 5], u32)>
     ensures { result ≡ kinds_of text.now }
@@ -129,7 +129,7 @@ fn read_naming<'a>(fields: &[&'a [u8]]) -> Option<NamingRow<'a>>
     let [.., mnemonic, option, memory, broadcast] = fields else {
         return None;
     };
-    if mnemonic.len() == 0 {
+    if mnemonic.is_empty() {
         return None;
     }
     Some(NamingRow {

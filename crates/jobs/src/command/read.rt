@@ -17,7 +17,7 @@ fn blank(line: &[u8]) -> bool
 fn passed_over(line: &[u8]) -> bool
     ensures { result ≡ passed_over line.now }
 {
-    blank(line) || (line.len() > 0 && line[0] == b'#')
+    blank(line) || line.starts_with(b"#")
 }
 
 #[tactic(auto, unfolding(crate::specs::Commands::window_of))]
@@ -27,7 +27,8 @@ fn read_window(from: &[u8], to: &[u8]) -> Option<(u32, u32)>
     Some((read_decimal(from)?, read_decimal(to)?))
 }
 
-// With such a window, where the two are numbers.
+// An archive opened from the first number up to the second, where both are numbers. `Unknown` is what a line says that
+// fits no command, so the readers of its parts answer it too.
 fn opened<'a>(front: bool, from: &[u8], to: &[u8]) -> Command<'a>
     ensures { said result ≡ opened_at front (window_of from.now to.now) }
 {
@@ -56,6 +57,8 @@ fn read_open<'a>(words: &[&[u8]]) -> Command<'a>
     }
 }
 
+// Words are compared by `==`, as specs/Commands compares them: of byte-string patterns the check learns the single bytes,
+// and finds no proof for the arms after the second.
 #[tactic(auto, unfolding(crate::specs::Commands::word_of))]
 fn read_word<'a>(word: &[u8]) -> Command<'a>
     ensures { said result ≡ word_of word.now }
@@ -82,7 +85,7 @@ fn read_words<'a>(words: &[&'a [u8]]) -> Command<'a>
         },
         [word, ..] if *word == b"open".as_slice() => read_open(words),
         [word] => read_word(word),
-        [word, name] if *word == b"segment".as_slice() && name.len() != 0 => Command::Segment(name),
+        [word, name] if *word == b"segment".as_slice() && !name.is_empty() => Command::Segment(name),
         _ => Command::Unknown,
     }
 }
