@@ -21,15 +21,6 @@ module _ {X : Type 0} where
   never : {x : X} {f : SourceFault} → ◌≡◌ {A = Result X SourceFault} (Ok x) (Err f) → ⊥
   never e = let z : ◌≡◌ {A = ℕ} 0 1 = cc in omega arith
 
-  ended : {e f : SourceFault} → ◌≡◌ {A = Result X SourceFault} (Err e) (Err f) → e ≡ f
-  ended e = cc
-
-  -- no entry is the one refusal
-  only_end : (xs : List X) (n : ℕ) {f : SourceFault} → Err f ≡ fetched xs n → f ≡ NoEntry
-  only_end [] n e = ended e
-  only_end (x ∷ xs) zero e = absurd (never (sym e))
-  only_end (x ∷ xs) (suc n) e = only_end xs n e
-
   pub fetched_past : (xs : List X) (n : ℕ) → length xs ≤ n → fetched xs n ≡ Err NoEntry
   fetched_past [] n h = refl
   fetched_past (x ∷ xs) zero h = absurd (not-suc-le-zero h)
