@@ -85,7 +85,9 @@ fn read_words<'a>(words: &[&'a [u8]]) -> Command<'a>
         },
         [word, ..] if *word == b"open".as_slice() => read_open(words),
         [word] => read_word(word),
-        [word, name] if *word == b"segment".as_slice() && !name.is_empty() => Command::Segment(name),
+        [word, name] if *word == b"segment".as_slice() && !name.is_empty() => Command::Segment(
+            name,
+        ),
         _ => Command::Unknown,
     }
 }
