@@ -15,11 +15,7 @@ fn print_texts<W: Write>(out: &mut W, k: usize, entry: &Entry) -> io::Result<()>
     write!(out, "{k} op=")?;
     out.write_all(opcode_text(&mut opcode, &entry.description))?;
     write!(out, "\n{k} sig=")?;
-    out.write_all(signature_text(
-        &mut signature,
-        &entry.description,
-        &entry.naming,
-    ))?;
+    out.write_all(signature_text(&mut signature, &entry.description, &entry.naming))?;
     out.write_all(b"\n")
 }
 
