@@ -21,7 +21,8 @@ pub fn cut<'a>(text: &'a [u8], at: u8) -> (&'a [u8], Option<&'a [u8]>)
     }
 }
 
-// The stretches between the bytes `at`, if there are at most `MOST`.
+// The stretches between the bytes `at`, if there are at most `MOST`. By `cut`, which is public in any case: its clause says
+// what is left after each stretch, and a loop over std's `split` would have to say that again.
 #[tactic(auto, using(std::proofs::lemmas::Grind::common_steps))]
 pub(crate) fn stretches<'a, const MOST: usize>(
     text: &'a [u8],

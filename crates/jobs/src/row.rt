@@ -39,7 +39,7 @@ fn read_code(text: &[u8]) -> Option<(u16, u32)>
     }
 }
 
-// The kinds of the numbers, and after them no operand.
+// The kinds of the numbers, and after them no operand. By place, as `kind_at` of specs/Rows says it.
 fn five_kinds(listed: &[&[u8]]) -> Option<[u32; 5]>
     requires { length listed.now ≤ 5 }
     ensures { result ≡ five_kinds (texts_in listed.now) }
@@ -76,6 +76,7 @@ fn read_memory(text: &[u8]) -> Option<MemoryRow>
     })
 }
 
+// The `else` is never reached: `read_fields` has counted the fields. It is there since the fields come as a slice.
 #[tactic(auto, using(crate::proofs::TextsIn::field_is))]
 fn read_form(fields: &[&[u8]]) -> Option<FormRow>
     requires { length fields.now ≡ 18 }

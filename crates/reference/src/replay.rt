@@ -41,6 +41,7 @@ pub(crate) fn differs<W: Write>(
             out.write_all(b"\n")?;
         }
         Err(fault) => {
+            // As `texts` of the program `archive` says it; a function of both would be longer than the line.
             let number = fault.number();
             writeln!(out, "{k} refused {number}: {fault}")?;
         }
