@@ -27,7 +27,8 @@ static ENTRIES: [(Tag, &[u8]); 6] = [
     (Tag::ZeroBytes, b"Zero_bytes"),
 ];
 
-// The row of a form with a tag, by its code as a row has it, an opcode of one byte, no operands, and all else 0.
+// The row of a form with a tag, by its code as a row has it, an opcode of one byte, no operands, and all else 0. Each field is
+// written out: a row has no default, since 0 means something in each.
 fn pseudo_row(tag: u32) -> FormRow
     requires { tag < 7 }
     ensures { described result ≡ Ok (pseudo_form (tag_of tag)) }

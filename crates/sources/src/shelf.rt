@@ -108,6 +108,7 @@ impl Source for Shelf<'_, '_, '_> {
         self.count
     }
 
+    // By the count and not by `get`: a refused shelf has rows, but no entries.
     fn fetch(&self, n: u32) -> Result<Description, SourceFault> {
         if n >= self.count {
             return Err(SourceFault::NoEntry);
