@@ -32,11 +32,7 @@ pub(crate) fn texts<W: Write>(job: &Job, out: &mut W) -> io::Result<()> {
 
 // The texts of each entry of a source.
 pub(crate) fn entries<S: NamingSource, W: Write>(source: &S, out: &mut W) -> io::Result<()> {
-    for (k, (description, naming)) in Entries::of(source).enumerate() {
-        let entry = Entry {
-            description,
-            naming,
-        };
+    for (k, entry) in Entries::of(source).enumerate() {
         print_texts(out, k, &entry)?;
     }
     Ok(())
