@@ -48,6 +48,7 @@ fn check(archive: &Archive) -> Result<(), SourceFault> {
     archive.check()
 }
 
+// Another line than a row's refusal: an archive has no row to name.
 fn refused<W: Write>(out: &mut W, fault: SourceFault) -> io::Result<()> {
     let number = fault.number();
     writeln!(out, "archive: refused {number}")

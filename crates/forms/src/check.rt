@@ -43,7 +43,7 @@ fn operands_wrong(kinds: &[OperandKind; 5], count: u32) -> bool
     }
 }
 
-// Each set has its own word for what is outside it, and so a function that says it.
+// This test and its like (`no_length`, `is_outside`, `is_unknown`) are a function for each word of specs/Checks.
 fn no_size(bits: u32) -> bool
     ensures { result ≡ no_size bits }
 {
@@ -176,6 +176,8 @@ pub(crate) fn mnemonic_wrong(text: &[u8]) -> bool
 }
 
 /// The first check that a form's row and its naming's fail: those of the form, 1 to 9, then those of the naming, 10 and 11.
+// Two arguments here and wherever rows are read: they are lent as two slices, of which one may be longer, and no slice of pairs
+// stands anywhere.
 #[tactic(auto, unfolding(crate::specs::Checks::pair_fault))]
 pub fn check_pair(row: &FormRow, naming: &NamingRow) -> Option<RowFault>
     ensures { result ≡ pair_fault row.now naming.now }

@@ -25,6 +25,7 @@ pub struct Flags {
     pub fpu: bool,
 }
 
+// By division, as specs/Checks says it.
 fn bit(weight: u16, flags: u16) -> bool
     requires { 0 < weight }
     ensures { result ≡ bit weight flags }
@@ -59,7 +60,7 @@ pub struct Form {
     pub encoding: Encoding,
     pub table: Table,
     pub prefix: Prefix,
-    // A number beside its length, and no enum of both: the low byte is printed alike at either length.
+    // A number of 16 bits in every form, and no enum: `wide` says only whether its high byte is printed too.
     pub opcode: u16,
     pub wide: bool,
     pub address: Size,

@@ -23,6 +23,7 @@ pub(crate) fn seg_rdi_misplaced(kinds: &[OperandKind]) -> bool
     kinds.iter().skip(1).any(|kind| kind.is_seg_rdi())
 }
 
+// By name, as check 9 lists them: it asks for kinds, and not for how they are printed.
 pub(crate) fn is_general_register_or_memory(kind: OperandKind) -> bool
     ensures { result ≡ is_general_register_or_memory kind }
 {

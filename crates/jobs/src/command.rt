@@ -7,6 +7,7 @@ pub mod read;
 #[derive(Clone, Copy, Debug, Default, PartialEq, Eq)]
 pub struct Opening {
     pub front: bool,
+    // Two numbers, since std's `Range` is not `Copy`, and a command is.
     pub window: Option<(u32, u32)>,
 }
 

@@ -11,7 +11,8 @@ fn place_of(at: u8, text: &[u8]) -> Option<usize>
     text.iter().position(|b| *b == at)
 }
 
-/// The text up to the first byte `at`, and what follows that byte, if it is there.
+/// The text up to the first byte `at`, and what follows that byte, if it is there. A pair and no option of one: where the byte
+/// is missing the whole text is the answer, as it is for the last line of a text.
 pub fn cut<'a>(text: &'a [u8], at: u8) -> (&'a [u8], Option<&'a [u8]>)
     ensures { split at text.now ≡ result.0.now ∷ split_rest at result.1 }
 {
@@ -21,8 +22,8 @@ pub fn cut<'a>(text: &'a [u8], at: u8) -> (&'a [u8], Option<&'a [u8]>)
     }
 }
 
-// The stretches between the bytes `at`, if there are at most `MOST`. By `cut`, which is public in any case: its clause says
-// what is left after each stretch, and a loop over std's `split` would have to say that again.
+// The stretches between the bytes `at`, if there are at most `MOST`. By `cut`, whose clause says what is left after each
+// stretch: a loop over std's `split` would have to say that again.
 #[tactic(auto, using(std::proofs::lemmas::Grind::common_steps))]
 pub(crate) fn stretches<'a, const MOST: usize>(
     text: &'a [u8],
@@ -30,7 +31,6 @@ pub(crate) fn stretches<'a, const MOST: usize>(
 ) -> Option<ArrayVec<&'a [u8], MOST>>
     ensures { option_map (λ v. texts_in v.items) result ≡ split_up_to MOST at text.now }
 {
-    // By `cut`, since a `for` over std's `split` gets no proof beside a const parameter.
     let mut found = ArrayVec::new();
     let mut rest = Some(text);
     while let Some(left) = rest {

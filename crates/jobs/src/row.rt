@@ -76,7 +76,7 @@ fn read_memory(text: &[u8]) -> Option<MemoryRow>
     })
 }
 
-// The `else` is never reached: `read_fields` has counted the fields. It is there since the fields come as a slice.
+// The fields come as a slice, as `stretches` gives them for every line; `read_fields` has counted them, so no `else` is reached.
 #[tactic(auto, using(crate::proofs::TextsIn::field_is))]
 fn read_form(fields: &[&[u8]]) -> Option<FormRow>
     requires { length fields.now ≡ 18 }

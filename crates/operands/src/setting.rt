@@ -4,6 +4,7 @@ use forms::form::Flags;
 use numbering::plan::Plan;
 
 /// A memory's label, and its size in bits.
+// A type apart from `Memory` of forms, whose size is in bytes: so no size in bytes is printed as one in bits.
 #[derive(Clone, Copy, Debug, PartialEq, Eq)]
 pub struct MemoryBits {
     pub label: MemoryLabel,

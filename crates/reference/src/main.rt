@@ -13,7 +13,7 @@ use std::io::{BufReader, BufWriter, Read, Write};
 // Rows are counted from 0. A line that is neither a row nor passed over is a difference too. The lines come as a slice,
 // whose length bounds both counts: for a `while let` over `split` itself, the check makes a goal that has no type.
 fn run<W: Write>(lines: &[&[u8]], out: &mut W) -> io::Result<()> {
-    // Counted by hand, since a row takes three lines, and a line that is no row is counted too.
+    // Counted by hand, since a row takes three lines, and a line that is no row is a difference too.
     let mut rows: u64 = 0;
     let mut differences: u64 = 0;
     let mut lines = lines.iter().copied();

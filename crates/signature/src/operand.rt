@@ -80,6 +80,7 @@ impl Walk {
         } }
     {
         let label = self.numbering.next(counter, place);
+        // No `then`: a closure that moves the count on would leave its new value unknown.
         let mask = if masked {
             Some(Mask {
                 number: self.numbering.next_mask(),

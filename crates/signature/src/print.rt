@@ -13,7 +13,8 @@ use text::pieces;
 use text::pieces::{Piece, Text, Upper, When};
 use text::writer::{WriteFault, Writer};
 
-// The first clause of `print_signature`, which is of what is written; the others are of the text alone.
+// The first clause of `print_signature`, which is of what is written; the others are of the text alone. A form and a name are two
+// arguments, since a source lends them from two lists.
 fn print_text(w: &mut Writer, description: &Description, naming: &Naming) -> Result<(), WriteFault>
     ensures { Wrote w.old (signature_text (form_in description.now) (name_in naming.now)) w.new result }
 {
@@ -23,7 +24,11 @@ fn print_text(w: &mut Writer, description: &Description, naming: &Naming) -> Res
     }
     let option = naming.option();
     let kinds = walked(description, option);
-    pieces!(Upper(naming.mnemonic()), When(kinds.len() > 0, Text(b" "))).print(w)?;
+    pieces!(
+        Upper(naming.mnemonic()),
+        When(!kinds.is_empty(), Text(b" "))
+    )
+    .print(w)?;
     print_operands(w, setting, start_of(option), kinds)
 }
 

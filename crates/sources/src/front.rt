@@ -28,7 +28,7 @@ static ENTRIES: [(Tag, &[u8]); 6] = [
 ];
 
 // The row of a form with a tag, by its code as a row has it, an opcode of one byte, no operands, and all else 0. Each field is
-// written out: a row has no default, since 0 means something in each.
+// written out: a row has no default, since 0 is a value like others in each field.
 fn pseudo_row(tag: u32) -> FormRow
     requires { tag < 7 }
     ensures { described result ≡ Ok (pseudo_form (tag_of tag)) }
@@ -52,7 +52,7 @@ fn pseudo_row(tag: u32) -> FormRow
     }
 }
 
-// The code of the tag and the mnemonic of an entry.
+// The code of the tag and the mnemonic of an entry. Its number is held to the count before, as in every source.
 fn entry(n: u32) -> (u32, &'static [u8])
     requires { n < 6 }
     ensures tag { result.0 ≡ n + 1 }

@@ -21,7 +21,7 @@ use std::slice::Iter;
 pub struct Shelf<'r, 'n, 't> {
     rows: &'r [FormRow],
     namings: &'n [NamingRow<'t>],
-    // How many entries there are: none where the check refuses, and only `check` says why.
+    // How many entries there are, none where the check refuses: a number, since a source's clauses speak of its list alone.
     count: u32,
     ghost counted: { count ≡ length (shelf_forms rows.now namings.now) },
 }

@@ -9,8 +9,8 @@ use crate::source::{NamingSource, Source};
 use forms::description::Description;
 use forms::naming::Naming;
 
-/// The entries from `from` up to, without, `to`. Two numbers, since std's `Range`
-/// is not `Copy`, and a window is.
+/// The entries from `from` up to, without, `to`.
+// Two numbers, since std's `Range` is not `Copy`, and a window is.
 #[derive(Clone, Copy, Debug, PartialEq, Eq, Drop)]
 pub struct Window<S> {
     pub source: S,

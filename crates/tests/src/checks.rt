@@ -28,7 +28,7 @@ mod tests {
     use forms::fault::RowFault;
     use forms::row::FormRow;
 
-    // The number of the first check that the row fails, or 0.
+    // The number of the first check that the row fails, or 0 for none: a case is then one number.
     fn number(row: FormRow) -> u32 {
         Description::from_row(&row)
             .err()

@@ -31,7 +31,7 @@ pub fn count_like<S: NamingSource>(source: &S, opcode: u16, letters: usize) -> u
         .count() as u32
 }
 
-/// How many there are in a window over the front matter and then a shelf.
+/// How many such entries there are in a window over the front matter and then a shelf.
 pub fn count_in_archive(
     rows: &[FormRow],
     namings: &[NamingRow],
@@ -109,7 +109,7 @@ mod tests {
         ]
     }
 
-    // The number of the refusal, or 0 for none: a case is then a row of numbers, as a job's answer writes it.
+    // The number of the refusal, or 0 for none: a case is then a row of numbers.
     fn number(answer: Result<(), SourceFault>) -> u32 {
         answer.err().map_or(0, |fault| fault.number())
     }

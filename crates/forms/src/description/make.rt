@@ -38,6 +38,7 @@ impl Description {
     }
 }
 
+// `from_row` by std's trait, for code that is generic over conversions.
 impl TryFrom<&FormRow> for Description {
     type Error = RowFault;
 

@@ -21,7 +21,7 @@ fn padded(bytes: &[u8]) -> [u8; 32]
     text
 }
 
-// The memory without broadcast, and that with it.
+// The memory without broadcast, and that with it: a step of its own, as specs/Names says it.
 fn memories(row: &NamingRow) -> Result<(Memory, Memory), RowFault>
     ensures { result ≡ memories_from row.now }
 {
@@ -81,6 +81,7 @@ impl Naming {
     }
 }
 
+// `from_row` by std's trait, for code that is generic over conversions.
 impl<'a> TryFrom<&NamingRow<'a>> for Naming {
     type Error = RowFault;
 
