@@ -23,12 +23,9 @@ fn print_text(w: &mut Writer, description: &Description, naming: &Naming) -> Res
         return w.text(text);
     }
     let option = naming.option();
+    // The space by the length, as specs/Signature has it.
     let kinds = walked(description, option);
-    pieces!(
-        Upper(naming.mnemonic()),
-        When(!kinds.is_empty(), Text(b" "))
-    )
-    .print(w)?;
+    pieces!(Upper(naming.mnemonic()), When(kinds.len() > 0, Text(b" "))).print(w)?;
     print_operands(w, setting, start_of(option), kinds)
 }
 
