@@ -8,7 +8,7 @@ impl OpCodeFormatter<'_> {
     ghost use Rattle.opcode.specs.Operands.{has, first_register};
 
     // Whether the role of one of the operands passes the test, which computes some predicate p.
-    pub fn has<F: Fn(Role) -> bool>(&self, test: F) -> bool
+    pub(crate) fn has<F: Fn(Role) -> bool>(&self, test: F) -> bool
         requires { F.IsAlwaysCallable test }
         ensures { (p : Role → Bool) → ((r : Role) (b : Bool) → F.post test r b → b ≡ p r) → result ≡ has p self.now.operands.now }
     {
