@@ -1,5 +1,5 @@
 // The archive of a job: the segments in order, after the front matter or without it, seen through a window.
-use crate::job::Job;
+use crate::job::{Job, MOST_SEGMENTS};
 use crate::texts;
 use jobs::command::Opening;
 use sources::fault::SourceFault;
@@ -9,17 +9,14 @@ use sources::joined_all::JoinedAll;
 use sources::shelf::Shelf;
 use sources::source::Source;
 use sources::window::Window;
-use std::alloc::{AllocError, Global};
 use std::io;
 use std::io::Write;
 
 type Archive<'a, 't> = Window<Joined<Window<FrontMatter>, JoinedAll<'a, Shelf<'a, 'a, 't>>>>;
 
-fn shelves<'a, 't>(heap: Global, job: &'a Job<'t>) -> Result<Vec<Shelf<'a, 'a, 't>>, AllocError> {
-    job.segments
-        .iter()
-        .map(|segment| job.shelf(segment))
-        .collect(heap)
+// The shelves of the segments, empty where there is no segment: an array, so that opening an archive asks for no memory.
+fn shelves<'a, 't>(job: &'a Job<'t>) -> [Shelf<'a, 'a, 't>; MOST_SEGMENTS] {
+    [job.shelf(0), job.shelf(1), job.shelf(2), job.shelf(3)]
 }
 
 fn assemble<'a, 't>(opening: Opening, shelves: &'a [Shelf<'a, 'a, 't>]) -> Archive<'a, 't> {
@@ -55,8 +52,8 @@ fn refused<W: Write>(out: &mut W, fault: SourceFault) -> io::Result<()> {
 }
 
 // The command `open`: how many entries the archive has.
-pub(crate) fn open<W: Write>(heap: Global, job: &Job, out: &mut W) -> io::Result<()> {
-    let shelves = shelves(heap, job)?;
+pub(crate) fn open<W: Write>(job: &Job, out: &mut W) -> io::Result<()> {
+    let shelves = shelves(job);
     let archive = assemble(job.opening, &shelves);
     match check(&archive) {
         Ok(()) => {
@@ -68,9 +65,9 @@ pub(crate) fn open<W: Write>(heap: Global, job: &Job, out: &mut W) -> io::Result
 }
 
 // The command `entries`: the texts of each entry. A refused archive has none. `open` has the same frame: a function that
-// takes the act would hand its closure an archive that borrows a list made inside of it, which is no plainer.
-pub(crate) fn entries<W: Write>(heap: Global, job: &Job, out: &mut W) -> io::Result<()> {
-    let shelves = shelves(heap, job)?;
+// takes the act would hand its closure an archive that borrows shelves made inside of it, which is no plainer.
+pub(crate) fn entries<W: Write>(job: &Job, out: &mut W) -> io::Result<()> {
+    let shelves = shelves(job);
     let archive = assemble(job.opening, &shelves);
     match check(&archive) {
         Ok(()) => texts::entries(&archive, out),

@@ -70,8 +70,14 @@ impl<'a> Job<'a> {
         )
     }
 
-    pub(crate) fn shelf<'s>(&'s self, segment: &Segment) -> Shelf<'s, 's, 'a> {
-        let (rows, namings) = self.parts(segment);
-        Shelf::new(rows, namings)
+    // The shelf of the segment with this number, empty where there is none.
+    pub(crate) fn shelf<'s>(&'s self, n: usize) -> Shelf<'s, 's, 'a> {
+        match self.segments.get(n) {
+            Some(segment) => {
+                let (rows, namings) = self.parts(segment);
+                Shelf::new(rows, namings)
+            }
+            None => Shelf::new(&[], &[]),
+        }
     }
 }

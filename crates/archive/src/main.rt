@@ -9,13 +9,13 @@ mod texts;
 use job::{Job, MOST_SEGMENTS};
 use jobs::command::Command;
 use jobs::command::read::read_command;
+use jobs::fields::cut;
 use std::alloc::Global;
 use std::io;
 use std::io::{BufReader, BufWriter, Read, Write};
 
-// Performs the command of one line. The heap goes beside the job, which holds only what its lines said.
+// Performs the command of one line.
 fn perform<'a, W: Write>(
-    heap: Global,
     job: &mut Job<'a>,
     out: &mut W,
     number: u64,
@@ -39,19 +39,25 @@ fn perform<'a, W: Write>(
         Command::Check => check::check(job, out),
         Command::Open(opening) => {
             job.opening = opening;
-            archive::open(heap, job, out)
+            archive::open(job, out)
         }
         Command::Texts => texts::texts(job, out),
-        Command::Entries => archive::entries(heap, job, out),
+        Command::Entries => archive::entries(job, out),
         Command::Unknown => writeln!(out, "line {number}: not understood"),
     }
 }
 
-// Runs the job line by line; lines are counted from 1.
+// Runs the job line by line; lines are counted from 1. By `cut`, whose clause says where a line ends.
 fn run<W: Write>(heap: Global, text: &[u8], out: &mut W) -> io::Result<()> {
     let mut job = Job::new(heap);
-    for (number, line) in (1..u64::MAX).zip(text.split(|b| *b == b'\n')) {
-        perform(heap, &mut job, out, number, line)?;
+    let mut rest = text;
+    for number in 1..u64::MAX {
+        let (line, after) = cut(rest, b'\n');
+        perform(&mut job, out, number, line)?;
+        match after {
+            Some(after) => rest = after,
+            None => break,
+        }
     }
     Ok(())
 }

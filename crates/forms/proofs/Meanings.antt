@@ -13,6 +13,7 @@ use Rattle.kinds.specs.declared.kind.OperandKind.{OperandKind}
 use Rattle.kinds.specs.declared.kind.UnknownKind.{UnknownKind}
 use Rattle.forms.specs.Checks.{no_size}
 use Rattle.forms.specs.Forms.{decoded, encodings, tables, prefixes, length_kinds, lengths, tags, encoding_from, size_from, encoding_of, table_of, prefix_of, lkind_of, length_of, tag_of, size_of}
+use Rattle.forms.specs.Names.{options}
 use Rattle.forms.specs.declared.codes.Encoding.{Encoding}
 use Rattle.forms.specs.declared.codes.LengthKind.{LengthKind}
 use Rattle.forms.specs.declared.codes.Prefix.{Prefix}
@@ -62,6 +63,9 @@ tag_outside n = past_last tags RowFault.CodeOutside n 16 refl
 
 pub length_outside : (n : ℕ) → is_err (decoded lengths RowFault.VectorLength n) ≡ nat_lt 2 n
 length_outside n = past_last lengths RowFault.VectorLength n 2 refl
+
+pub option_outside : (n : ℕ) → is_err (decoded options RowFault.NamingCode n) ≡ nat_lt 6 n
+option_outside n = past_last options RowFault.NamingCode n 6 refl
 
 pub encoding_within : (n : ℕ) → n < 5 → encoding_from n ≡ Ok (encoding_of n)
 encoding_within n below =

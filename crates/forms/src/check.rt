@@ -1,15 +1,15 @@
 // The checks of rows, in the order of their numbers.
 ghost use Rattle.std.specs.Prelude.{◌≡◌, not, ◌&&◌, ◌||◌, ◌==◌, nat_le, nat_lt};
-ghost use Rattle.forms.specs.Checks.{codes_outside, operands_wrong, no_size, opcode_wrong, index_outside, length_wrong, broadcast_wrong, operands_fault, numbers_fault, form_fault, mnemonic_wrong, in_set, all_in_set, pair_fault};
+ghost use Rattle.forms.specs.Checks.{codes_outside, operands_wrong, no_size, opcode_wrong, index_outside, length_wrong, broadcast_wrong, operands_fault, numbers_fault, form_fault, mnemonic_wrong, in_set, all_in_set, memory_outside, naming_fault, pair_fault};
 ghost use Rattle.forms.specs.Operands.{kinds_of};
 
-use crate::codes::{Encoding, LengthKind, Prefix, Size, Table, Tag, VectorLength};
+use crate::codes::{Encoding, LengthKind, NamingOption, Prefix, Size, Table, Tag, VectorLength};
 use crate::fault::RowFault;
-use crate::form::Flags;
+use crate::form::{Flags, Memory};
 use crate::operands::{
     any, any_unknown, is_general_register_or_memory, kinds_of, seg_rdi_misplaced,
 };
-use crate::row::{FormRow, NamingRow};
+use crate::row::{FormRow, MemoryRow, NamingRow};
 use kinds::OperandKind;
 
 // Past the code of MVEX, which check 2 refuses.
@@ -175,6 +175,36 @@ pub(crate) fn mnemonic_wrong(text: &[u8]) -> bool
     text.is_empty() || text.len() > 32 || !all_in_set(text)
 }
 
+// Whether check 11 refuses a memory: its label or its size.
+fn memory_outside(memory: MemoryRow) -> bool
+    ensures { result ≡ memory_outside memory }
+{
+    Memory::try_from(memory).is_err()
+}
+
+#[tactic(auto, using(crate::proofs::Meanings::option_outside))]
+fn no_option(option: u32) -> bool
+    ensures { result ≡ nat_lt 6 option }
+{
+    NamingOption::try_from(option).is_err()
+}
+
+impl NamingRow<'_> {
+    // A row is judged without the naming that it stands for, as a form's row is: a shelf checks all its rows.
+    /// The first check that the row fails, of 10 and 11.
+    pub fn check(&self) -> Option<RowFault>
+        ensures { result ≡ naming_fault self.now }
+    {
+        if mnemonic_wrong(self.mnemonic) {
+            return Some(RowFault::Mnemonic);
+        }
+        if no_option(self.option) || memory_outside(self.memory) || memory_outside(self.broadcast) {
+            return Some(RowFault::NamingCode);
+        }
+        None
+    }
+}
+
 /// The first check that a form's row and its naming's fail: those of the form, 1 to 9, then those of the naming, 10 and 11.
 // Two arguments here and wherever rows are read: they are lent as two slices, of which one may be longer, and no slice of pairs
 // stands anywhere.
@@ -182,5 +212,8 @@ pub(crate) fn mnemonic_wrong(text: &[u8]) -> bool
 pub fn check_pair(row: &FormRow, naming: &NamingRow) -> Option<RowFault>
     ensures { result ≡ pair_fault row.now naming.now }
 {
-    row.check().or(naming.check())
+    match row.check() {
+        Some(fault) => Some(fault),
+        None => naming.check(),
+    }
 }

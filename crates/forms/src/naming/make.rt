@@ -1,6 +1,5 @@
 // How a naming is made, and what it hands out.
 ghost use Rattle.std.specs.Prelude.{◌≡◌, ◌≤◌, length, take};
-ghost use Rattle.forms.specs.Checks.{naming_fault};
 ghost use Rattle.forms.specs.Names.{memories_from, named};
 ghost use Rattle.forms.specs.Made.{name_in, name_got};
 
@@ -89,14 +88,5 @@ impl<'a> TryFrom<&NamingRow<'a>> for Naming {
 
     fn try_from(row: &NamingRow<'a>) -> Result<Naming, RowFault> {
         Naming::from_row(row)
-    }
-}
-
-impl NamingRow<'_> {
-    /// The first check that the row fails, of 10 and 11.
-    pub fn check(&self) -> Option<RowFault>
-        ensures { result ≡ naming_fault self.now }
-    {
-        Naming::from_row(self).err()
     }
 }
