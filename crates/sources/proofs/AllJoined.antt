@@ -6,7 +6,6 @@ use Rattle.std.proofs.lemmas.List.Concat.{length-flat_map}
 use Rattle.std.proofs.lemmas.List.Sums.{sum_by-cons}
 use Rattle.std.proofs.lemmas.Bool.{cases_lt, cond-true, cond-false, le-leb, lt-leb, lt-ltb, le-ltb}
 use Rattle.sources.specs.JoinedAll.{total_of, entries, chained_all, place_among, place_of}
-use Rattle.sources.specs.Lengths.{entries_as_long}
 use Rattle.sources.specs.Sources.{most, fetched, checked, check_total, chained}
 use Rattle.sources.specs.declared.fault.SourceFault.{SourceFault}
 use Rattle.sources.proofs.Fetched.{fetched_past, fetched_left, fetched_right}
@@ -52,26 +51,24 @@ module _ {S : Type 0} where
   same_fault : {x y : SourceFault} → ◌≡◌ {A = Result (S × ℕ) SourceFault} (Err x) (Err y) → x ≡ y
   same_fault e = cc
 
--- a place by one list of each source is one by another that is as long
-module _ {S X Y : Type 0} (names : S → List X) (list : S → List Y) (as_long : (s : S) → length (names s) ≡ length (list s)) where
+-- what stands at a place of the sources stands there in the joining of all
+module _ {S X : Type 0} (list : S → List X) where
   here : (s : S) (ss : List S) (n : ℕ) → n < length (list s) → place_among list (s ∷ ss) n ≡ Ok (s, n)
   here s ss n h = cond-true _ _ _ (lt-ltb _ _ h)
 
   later : (s : S) (ss : List S) (n : ℕ) → length (list s) ≤ n → place_among list (s ∷ ss) n ≡ place_among list ss (n - length (list s))
   later s ss n h = cond-false _ _ _ (le-ltb _ _ h)
 
-  stands : (ss : List S) (n : ℕ) {p : S × ℕ} → Ok p ≡ place_among list ss n → fetched (names p.0) p.1 ≡ fetched (flat_map names ss) n
+  stands : (ss : List S) (n : ℕ) {p : S × ℕ} → Ok p ≡ place_among list ss n → fetched (list p.0) p.1 ≡ fetched (flat_map list ss) n
   stands [] n e = absurd (never e)
   stands (s ∷ ss) n {p} e =
       ⊎_elim
+      (λ h. ap (λ r. fetched (list r.0) r.1) (same_source (e ∙ here s ss n h)) ∙ sym (fetched_left (list s) (flat_map list ss) n h))
       (λ h.
-      let k : n < length (names s) = omega (arith, as_long s) in
-      ap (λ r. fetched (names r.0) r.1) (same_source (e ∙ here s ss n h)) ∙ sym (fetched_left (names s) (flat_map names ss) n k))
-      (λ h.
-      let k : length (names s) + (n - length (list s)) ≡ n = omega (arith, as_long s) in
+      let k : length (list s) + (n - length (list s)) ≡ n = omega arith in
       stands ss (n - length (list s)) (e ∙ later s ss n h)
-      ∙ sym (fetched_right (names s) (flat_map names ss) (n - length (list s)))
-      ∙ ap (fetched (names s ++ flat_map names ss)) k)
+      ∙ sym (fetched_right (list s) (flat_map list ss) (n - length (list s)))
+      ∙ ap (fetched (list s ++ flat_map list ss)) k)
       (cases_lt n (length (list s)))
 
   past : (ss : List S) (n : ℕ) {x : SourceFault} → Err x ≡ place_among list ss n → (entries list ss ≤ n) × (x ≡ SourceFault.NoEntry)
@@ -88,18 +85,17 @@ module _ {S X Y : Type 0} (names : S → List X) (list : S → List Y) (as_long 
     within : {p : S × ℕ} → Ok p ≡ place_of list ss n → n < length (chained_all list ss)
     within e = ⊎_elim (λ h. h) (λ h. absurd (never (e ∙ cond-false _ _ _ (le-ltb _ _ h)))) (cases_lt n (length (chained_all list ss)))
 
-    pub placed : {p : S × ℕ} → Ok p ≡ place_of list ss n → fetched (names p.0) p.1 ≡ fetched (chained_all names ss) n
+    pub placed : {p : S × ℕ} → Ok p ≡ place_of list ss n → fetched (list p.0) p.1 ≡ fetched (chained_all list ss) n
     placed e =
         let h = within e in
-        let k : entries names ss ≤ most = omega (arith, entries_as_long names list as_long ss, few_enough list ss n h) in
-        stands ss n (e ∙ cond-true _ _ _ (lt-ltb _ _ h)) ∙ sym (ap (λ ys. fetched ys n) (whole names ss k))
+        stands ss n (e ∙ cond-true _ _ _ (lt-ltb _ _ h)) ∙ sym (ap (λ ys. fetched ys n) (whole list ss (few_enough list ss n h)))
 
-    pub not_placed : {x : SourceFault} → Err x ≡ place_of list ss n → length (chained_all names ss) ≡ length (chained_all list ss) → Err x ≡ fetched (chained_all names ss) n
-    not_placed {x} e k =
+    pub not_placed : {x : SourceFault} → Err x ≡ place_of list ss n → Err x ≡ fetched (chained_all list ss) n
+    not_placed {x} e =
         let w : (length (chained_all list ss) ≤ n) × (x ≡ SourceFault.NoEntry) =
         ⊎_elim
         (λ h. let p = past ss n (e ∙ cond-true _ _ _ (lt-ltb _ _ h)) in (omega (arith, p.0, length_short list ss), p.1))
         (λ h. (h, same_fault (e ∙ cond-false _ _ _ (le-ltb _ _ h))))
         (cases_lt n (length (chained_all list ss)))
         in
-        ap Err w.1 ∙ sym (fetched_past (chained_all names ss) n (omega (arith, w.0)))
+        ap Err w.1 ∙ sym (fetched_past (chained_all list ss) n w.0)

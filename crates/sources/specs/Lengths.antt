@@ -1,12 +1,11 @@
 -- How long the lists of the sources are: no longer than a source's list may be, and that of names as long as that of forms.
--- The facts that the sources' `impl`s give stand here, since these may name nothing of proofs/. Assumes nothing.
-use Rattle.std.specs.Prelude.{◌≡◌, ℕ, ◌+◌, ◌-◌, ◌≤◌, ◌&&◌, min, List, [], ◌∷◌, ◌++◌, map, length, take, drop, Some, None, Ok, Err, Option, Result, nat_le}
+-- What `short` of the sources' `impl`s cites stands here, since these may name nothing of proofs/. Assumes nothing.
+use Rattle.std.specs.Prelude.{◌≡◌, ℕ, ◌+◌, ◌-◌, ◌≤◌, ◌&&◌, min, List, ◌++◌, map, length, take, drop, Some, None, Ok, Err, Option, Result, nat_le}
 use Rattle.std.proofs.Common.{refl, sym, ap, ◌∙◌, subst, lit≤, length-take, length-drop, length-append}
 use Rattle.std.proofs.Math.Nat.{le_trans, sub-le, min-le_left, min-le_right, min-eq_left}
 use Rattle.std.specs.List.{flat_map}
 use Rattle.std.proofs.lemmas.List.{length-map}
 use Rattle.std.proofs.lemmas.List.Concat.{length-flat_map}
-use Rattle.std.proofs.lemmas.List.Sums.{sum_by-cons}
 use Rattle.std.proofs.lemmas.Bool.{leb-true, cond_both}
 use Rattle.forms.specs.Forms.{typed}
 use Rattle.forms.specs.Names.{name_of}
@@ -16,7 +15,7 @@ use Rattle.forms.specs.declared.row.NamingRow.{NamingRow}
 use Rattle.sources.specs.Front.{front_forms}
 use Rattle.sources.specs.JoinedAll.{entries, chained_all}
 use Rattle.sources.specs.Shelves.{first_refused, pairs, shelf_answer, check_shelf, shelf_forms, shelf_names}
-use Rattle.sources.specs.Sources.{most, checked, check_window, cut, check_total, check_joined, chained}
+use Rattle.sources.specs.Sources.{most, checked, check_window, cut, check_joined, chained}
 use Rattle.sources.specs.declared.fault.SourceFault.{SourceFault}
 
 -- how many entries there are between two places
@@ -75,20 +74,6 @@ module _ {S X : Type 0} (list : S → List X) where
       (λ o. length (checked o (flat_map list ss)) ≤ most)
       (λ e. subst (λ k. k ≤ most) (sym (length-flat_map list ss)) (leb-true (entries list ss) most e))
       (λ _. lit≤ tt)
-
-module _ {S X Y : Type 0} (names : S → List X) (list : S → List Y) (as_long : (s : S) → length (names s) ≡ length (list s)) where
-  pub entries_as_long : (ss : List S) → entries names ss ≡ entries list ss
-  entries_as_long [] = refl
-  entries_as_long (s ∷ ss) =
-      sum_by-cons (λ t. length (names t)) s ss
-      ∙ (λ i. as_long s i + entries_as_long ss i)
-      ∙ sym (sum_by-cons (λ t. length (list t)) s ss)
-
-  pub all_as_long : (ss : List S) → length (chained_all names ss) ≡ length (chained_all list ss)
-  all_as_long ss =
-      checked_as_long (check_total (entries names ss)) (check_total (entries list ss)) (flat_map names ss) (flat_map list ss)
-      (ap check_total (entries_as_long ss))
-      (length-flat_map names ss ∙ entries_as_long ss ∙ sym (length-flat_map list ss))
 
 module _ (rs : List FormRow) (ns : List NamingRow) where
   -- each of the two lists is cut to as many as there are pairs

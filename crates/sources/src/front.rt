@@ -1,5 +1,5 @@
 // The six pseudo entries that stand before all others: one that is invalid, four that declare data, and the empty one.
-ghost use Rattle.std.specs.Prelude.{◌≡◌, ◌+◌, ◌<◌, Ok, codes, refl, slice_index_or};
+ghost use Rattle.std.specs.Prelude.{◌≡◌, ◌+◌, ◌<◌, Ok, codes, slice_index_or};
 ghost use Rattle.forms.specs.Forms.{described, tag_of};
 ghost use Rattle.sources.specs.Front.{pseudo_form, pseudo_name, front_forms, front_names};
 ghost use Rattle.sources.specs.Lengths.{front_short};
@@ -83,10 +83,12 @@ impl Source for FrontMatter {
 impl NamingSource for FrontMatter {
     ghost names = { λ _. front_names };
 
-    ghost as_long = { λ _. refl };
+    fn naming_count(&self) -> u32 {
+        ENTRIES.len() as u32
+    }
 
     fn fetch_naming(&self, n: u32) -> Result<Naming, SourceFault> {
-        if n >= self.count() {
+        if n >= self.naming_count() {
             return Err(SourceFault::NoEntry);
         }
         let (_, mnemonic) = entry(n);

@@ -1,9 +1,9 @@
 // The entries of one source, and then those of another.
-ghost use Rattle.std.specs.Prelude.{◌≡◌, ◌+◌, length};
+ghost use Rattle.std.specs.Prelude.{◌≡◌, ◌≤◌, ◌+◌, length};
 ghost use Rattle.sources.specs.JoinedAll.{total_of};
 ghost use Rattle.sources.specs.Places.{joined_place};
-ghost use Rattle.sources.specs.Sources.{chained, check_joined};
-ghost use Rattle.sources.specs.Lengths.{chained_short, chains_as_long};
+ghost use Rattle.sources.specs.Sources.{most, chained, check_joined};
+ghost use Rattle.sources.specs.Lengths.{chained_short};
 
 use crate::fault::SourceFault;
 use crate::source::{MOST, NamingSource, Source};
@@ -22,19 +22,8 @@ impl<A: Source, B: Source> Joined<A, B> {
     pub fn check(&self) -> Result<(), SourceFault>
         ensures { result ≡ check_joined (length (A.Source.list self.now.first)) (length (B.Source.list self.now.second)) }
     {
-        self.total()?;
+        total(self.first.count(), self.second.count())?;
         Ok(())
-    }
-
-    // How many entries both sources have together.
-    fn total(&self) -> Result<u32, SourceFault>
-        ensures { result ≡ total_of (length (A.Source.list self.now.first) + length (B.Source.list self.now.second)) }
-    {
-        let total = self.first.count() + self.second.count();
-        if total > MOST {
-            return Err(SourceFault::TooManyEntries);
-        }
-        Ok(total)
     }
 }
 
@@ -46,20 +35,29 @@ pub(crate) enum Side {
     Second(u32),
 }
 
-impl<A: Source, B: Source> Joined<A, B> {
-    // Where entry n stands.
-    #[tactic(auto, using(crate::proofs::Layers::length_chained))]
-    fn place(&self, n: u32) -> Result<Side, SourceFault>
-        ensures { result ≡ joined_place (length (A.Source.list self.now.first)) (length (B.Source.list self.now.second)) n }
-    {
-        let first = self.first.count();
-        if n >= self.count() {
-            Err(SourceFault::NoEntry)
-        } else if n < first {
-            Ok(Side::First(n))
-        } else {
-            Ok(Side::Second(n - first))
-        }
+// How many entries two sources of so many have together.
+fn total(first: u32, second: u32) -> Result<u32, SourceFault>
+    requires { (first ≤ most) × (second ≤ most) }
+    ensures { result ≡ total_of (first + second) }
+{
+    let total = first + second;
+    if total > MOST {
+        return Err(SourceFault::TooManyEntries);
+    }
+    Ok(total)
+}
+
+// Where entry n of the two stands. Their counts are handed in, since a source may take long to count.
+fn place(first: u32, second: u32, n: u32) -> Result<Side, SourceFault>
+    requires { (first ≤ most) × (second ≤ most) }
+    ensures { result ≡ joined_place first second n }
+{
+    if n >= total(first, second).unwrap_or(0) {
+        Err(SourceFault::NoEntry)
+    } else if n < first {
+        Ok(Side::First(n))
+    } else {
+        Ok(Side::Second(n - first))
     }
 }
 
@@ -69,11 +67,11 @@ impl<A: Source, B: Source> Source for Joined<A, B> {
     ghost short = { λ j. chained_short (A.Source.list j.first) (B.Source.list j.second) };
 
     fn count(&self) -> u32 {
-        self.total().unwrap_or(0)
+        total(self.first.count(), self.second.count()).unwrap_or(0)
     }
 
     fn fetch(&self, n: u32) -> Result<Description, SourceFault> {
-        match self.place(n)? {
+        match place(self.first.count(), self.second.count(), n)? {
             Side::First(k) => self.first.fetch(k),
             Side::Second(k) => self.second.fetch(k),
         }
@@ -83,10 +81,12 @@ impl<A: Source, B: Source> Source for Joined<A, B> {
 impl<A: NamingSource, B: NamingSource> NamingSource for Joined<A, B> {
     ghost names = { λ j. chained (A.NamingSource.names j.first) (B.NamingSource.names j.second) };
 
-    ghost as_long = { λ j. chains_as_long (A.NamingSource.names j.first) (B.NamingSource.names j.second) (A.Source.list j.first) (B.Source.list j.second) (A.NamingSource.as_long j.first) (B.NamingSource.as_long j.second) };
+    fn naming_count(&self) -> u32 {
+        total(self.first.naming_count(), self.second.naming_count()).unwrap_or(0)
+    }
 
     fn fetch_naming(&self, n: u32) -> Result<Naming, SourceFault> {
-        match self.place(n)? {
+        match place(self.first.naming_count(), self.second.naming_count(), n)? {
             Side::First(k) => self.first.fetch_naming(k),
             Side::Second(k) => self.second.fetch_naming(k),
         }

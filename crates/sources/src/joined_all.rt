@@ -1,8 +1,8 @@
 // The entries of several sources of one type, one source after another.
-ghost use Rattle.std.specs.Prelude.{◌≡◌};
+ghost use Rattle.std.specs.Prelude.{◌≡◌, length};
 ghost use Rattle.std.specs.Result.{result_map_both};
 ghost use Rattle.sources.specs.JoinedAll.{chained_all, entries, place_of, total_of};
-ghost use Rattle.sources.specs.Lengths.{chained_all_short, all_as_long};
+ghost use Rattle.sources.specs.Lengths.{chained_all_short};
 ghost use Rattle.sources.specs.Sources.{check_total};
 
 use crate::fault::SourceFault;
@@ -80,13 +80,54 @@ impl<S: Source> Source for JoinedAll<'_, S> {
     }
 }
 
+impl<'a, S: NamingSource> JoinedAll<'a, S> {
+    // How many entries the sources have together, by the count of each that speaks of its names too.
+    fn naming_total(&self) -> Result<u32, SourceFault>
+        ensures named { result ≡ total_of (entries S.NamingSource.names self.now.sources.now) }
+        ensures listed { result ≡ total_of (entries S.Source.list self.now.sources.now) }
+    {
+        let mut names = 0;
+        for source in self.sources {
+            names += source.naming_count();
+            if names > MOST {
+                return Err(SourceFault::TooManyEntries);
+            }
+        }
+        Ok(names)
+    }
+
+    // Where the name of entry n stands.
+    fn naming_place(&self, n: u32) -> Result<Place<'a, S>, SourceFault>
+        ensures place { result_map_both (λ p. (p.source.now, p.entry)) (λ f. f) result ≡ place_of S.NamingSource.names self.now.sources.now n }
+        ensures even { length (chained_all S.NamingSource.names self.now.sources.now) ≡ length (chained_all S.Source.list self.now.sources.now) }
+    {
+        if n >= self.naming_count() {
+            return Err(SourceFault::NoEntry);
+        }
+        let mut name = n;
+        for source in self.sources {
+            let count = source.naming_count();
+            if name < count {
+                return Ok(Place {
+                    source,
+                    entry: name,
+                });
+            }
+            name -= count;
+        }
+        Err(SourceFault::NoEntry)
+    }
+}
+
 impl<S: NamingSource> NamingSource for JoinedAll<'_, S> {
     ghost names = { λ j. chained_all S.NamingSource.names j.sources.now };
 
-    ghost as_long = { λ j. all_as_long S.NamingSource.names S.Source.list S.NamingSource.as_long j.sources.now };
+    fn naming_count(&self) -> u32 {
+        self.naming_total().unwrap_or(0)
+    }
 
     fn fetch_naming(&self, n: u32) -> Result<Naming, SourceFault> {
-        let Place { source, entry } = self.place(n)?;
+        let Place { source, entry } = self.naming_place(n)?;
         source.fetch_naming(entry)
     }
 }

@@ -21,7 +21,9 @@ impl<S: Source> Source for &S {
 impl<S: NamingSource> NamingSource for &S {
     ghost names = { λ s. S.NamingSource.names s.now };
 
-    ghost as_long = { λ s. S.NamingSource.as_long s.now };
+    fn naming_count(&self) -> u32 {
+        (**self).naming_count()
+    }
 
     fn fetch_naming(&self, n: u32) -> Result<Naming, SourceFault> {
         (**self).fetch_naming(n)

@@ -3,7 +3,7 @@ ghost use Rattle.std.specs.Prelude.{◌≡◌, length};
 ghost use Rattle.std.specs.Iterator.Adapters.{enumerate_source, enumerate_count, zip_first, zip_second};
 ghost use Rattle.std.specs.Slice.Iter.{iter_rest};
 ghost use Rattle.sources.specs.Shelves.{pairs, first_refused, check_shelf, shelf_forms, shelf_names};
-ghost use Rattle.sources.specs.Lengths.{shelf_short, shelves_as_long};
+ghost use Rattle.sources.specs.Lengths.{shelf_short};
 
 use crate::fault::SourceFault;
 use crate::source::{MOST, NamingSource, Source};
@@ -120,7 +120,9 @@ impl Source for Shelf<'_, '_, '_> {
 impl NamingSource for Shelf<'_, '_, '_> {
     ghost names = { λ s. shelf_names s.rows.now s.namings.now };
 
-    ghost as_long = { λ s. shelves_as_long s.rows.now s.namings.now };
+    fn naming_count(&self) -> u32 {
+        self.count
+    }
 
     fn fetch_naming(&self, n: u32) -> Result<Naming, SourceFault> {
         if n >= self.count {

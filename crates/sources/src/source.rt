@@ -47,6 +47,11 @@ pub trait Source {
 pub trait NamingSource: Source {
     ghost names: { Self → List Name };
 
+    /// The count of both lists.
+    fn naming_count(&self) -> u32
+        ensures named { result ≡ length (names self.now) }
+        ensures listed { result ≡ length (Self.Source.list self.now) };
+
     /// The name of an entry; there is one exactly where there is a form.
     fn fetch_naming(&self, n: u32) -> Result<Naming, SourceFault>
         ensures got { name_got result ≡ fetched (names self.now) n }
@@ -59,6 +64,4 @@ pub trait NamingSource: Source {
     {
         entry_of(self.fetch(n), self.fetch_naming(n))
     }
-
-    ghost as_long: { (s : Self) → length (names s) ≡ length (Self.Source.list s) };
 }

@@ -1,8 +1,8 @@
 // Some entries of another source, next to each other.
 ghost use Rattle.std.specs.Prelude.{◌≡◌, length};
-ghost use Rattle.sources.specs.Places.{window_place};
+ghost use Rattle.sources.specs.Places.{window_count, window_place};
 ghost use Rattle.sources.specs.Sources.{cut, check_window};
-ghost use Rattle.sources.specs.Lengths.{cut_short, cuts_as_long};
+ghost use Rattle.sources.specs.Lengths.{cut_short};
 
 use crate::fault::SourceFault;
 use crate::source::{NamingSource, Source};
@@ -29,12 +29,25 @@ impl<S: Source> Window<S> {
             Err(SourceFault::WindowBounds)
         }
     }
+}
 
-    // The number that entry n has in the source below.
-    fn place(&self, n: u32) -> Result<u32, SourceFault>
-        ensures { result ≡ window_place (length (S.Source.list self.now.source)) self.now.from self.now.to n }
+impl<S> Window<S> {
+    // How many entries the window has over a source of so many.
+    fn width(&self, count: u32) -> u32
+        ensures { result ≡ window_count count self.now.from self.now.to }
     {
-        if n < self.count() {
+        if self.from <= self.to && self.to <= count {
+            self.to - self.from
+        } else {
+            0
+        }
+    }
+
+    // The number that entry n has in the source below, which has so many.
+    fn place(&self, count: u32, n: u32) -> Result<u32, SourceFault>
+        ensures { result ≡ window_place count self.now.from self.now.to n }
+    {
+        if n < self.width(count) {
             Ok(self.from + n)
         } else {
             Err(SourceFault::NoEntry)
@@ -48,23 +61,23 @@ impl<S: Source> Source for Window<S> {
     ghost short = { λ w. cut_short (S.Source.list w.source) w.from w.to (S.Source.short w.source) };
 
     fn count(&self) -> u32 {
-        match self.check() {
-            Ok(()) => self.to - self.from,
-            Err(_) => 0,
-        }
+        self.width(self.source.count())
     }
 
     fn fetch(&self, n: u32) -> Result<Description, SourceFault> {
-        self.source.fetch(self.place(n)?)
+        self.source.fetch(self.place(self.source.count(), n)?)
     }
 }
 
 impl<S: NamingSource> NamingSource for Window<S> {
     ghost names = { λ w. cut (S.NamingSource.names w.source) w.from w.to };
 
-    ghost as_long = { λ w. cuts_as_long (S.NamingSource.names w.source) (S.Source.list w.source) w.from w.to (S.NamingSource.as_long w.source) };
+    fn naming_count(&self) -> u32 {
+        self.width(self.source.naming_count())
+    }
 
     fn fetch_naming(&self, n: u32) -> Result<Naming, SourceFault> {
-        self.source.fetch_naming(self.place(n)?)
+        self.source
+            .fetch_naming(self.place(self.source.naming_count(), n)?)
     }
 }
