@@ -33,29 +33,27 @@ fn pairs(rows: &[FormRow], namings: &[NamingRow]) -> usize
     rows.len().min(namings.len())
 }
 
-// The pairs of rows, each with its place.
-fn placed_pairs<'r, 't>(
-    rows: &'r [FormRow],
-    namings: &'r [NamingRow<'t>],
-) -> Enumerate<Zip<Iter<'r, FormRow>, Iter<'r, NamingRow<'t>>>>
-    ensures rows { iter_rest (zip_first (enumerate_source result)) ≡ rows.now }
-    ensures namings { iter_rest (zip_second (enumerate_source result)) ≡ namings.now }
-    ensures start { enumerate_count result ≡ 0 }
+// The first of the pairs that fails a check, with its place. A loop: what std states of `find_map` is about a run of the
+// iterator, and no lemma leads from one to these pairs.
+fn first_failing<'r, 't>(
+    placed: Enumerate<Zip<Iter<'r, FormRow>, Iter<'r, NamingRow<'t>>>>,
+) -> Option<(usize, RowFault)>
+    requires { enumerate_count placed ≡ 0 }
+    ensures { result ≡ first_refused (iter_rest (zip_first (enumerate_source placed.entry))) (iter_rest (zip_second (enumerate_source placed.entry))) }
 {
-    rows.iter().zip(namings).enumerate()
+    for (place, (row, naming)) in placed {
+        if let Some(fault) = check_pair(row, naming) {
+            return Some((place, fault));
+        }
+    }
+    None
 }
 
 /// The place and the fault of the first pair of rows that fails a check.
 pub fn first_refused(rows: &[FormRow], namings: &[NamingRow]) -> Option<(usize, RowFault)>
     ensures { result ≡ first_refused rows.now namings.now }
 {
-    // A loop: what std states of `find_map` is about a run of the iterator, and no lemma leads from one to these pairs.
-    for (place, (row, naming)) in placed_pairs(rows, namings) {
-        if let Some(fault) = check_pair(row, naming) {
-            return Some((place, fault));
-        }
-    }
-    None
+    first_failing(rows.iter().zip(namings).enumerate())
 }
 
 fn check_shelf(rows: &[FormRow], namings: &[NamingRow]) -> Result<(), SourceFault>
