@@ -61,23 +61,32 @@ impl<'a> Job<'a> {
         Ok(())
     }
 
-    // The rows and the namings of a segment.
-    pub(crate) fn parts<'s>(&'s self, segment: &Segment) -> (&'s [FormRow], &'s [NamingRow<'a>]) {
-        let Range { start, end } = segment.places;
+    // The rows and the namings from one place up to another.
+    fn between<'s>(&'s self, start: usize, end: usize) -> (&'s [FormRow], &'s [NamingRow<'a>]) {
         (
             part(self.rows.as_slice(), start..end),
             part(self.namings.as_slice(), start..end),
         )
     }
 
+    // The rows and the namings of a segment.
+    pub(crate) fn parts<'s>(&'s self, segment: &Segment) -> (&'s [FormRow], &'s [NamingRow<'a>]) {
+        let Range { start, end } = segment.places;
+        self.between(start, end)
+    }
+
+    // Where the rows of the segment with this number start and end, if there is one; else none.
+    fn bounds(&self, n: usize) -> (usize, usize) {
+        match self.segments.get(n) {
+            Some(segment) => (segment.places.start, segment.places.end),
+            None => (0, 0),
+        }
+    }
+
     // The shelf of the segment with this number, empty where there is none.
     pub(crate) fn shelf<'s>(&'s self, n: usize) -> Shelf<'s, 's, 'a> {
-        match self.segments.get(n) {
-            Some(segment) => {
-                let (rows, namings) = self.parts(segment);
-                Shelf::new(rows, namings)
-            }
-            None => Shelf::new(&[], &[]),
-        }
+        let (start, end) = self.bounds(n);
+        let (rows, namings) = self.between(start, end);
+        Shelf::new(rows, namings)
     }
 }

@@ -34,7 +34,7 @@ module _ (plan : Plan) (xs : List Counter) (few : length xs ≤ 6) where
   count_is_rank : (c : Counter) → c ≢ Uncounted → count_of c (start plan).counts ≡ 0 → count_of c (moved_by xs (start plan)).counts ≡ rank c xs
   count_is_rank c h none = omega (arith, counted c xs (start plan) h (omega (arith, count_by-le-length (λ k. same k c) xs)))
 
-  label_by_rank : (c : Counter) (place : ℕ) → label_of plan c (count_of c (moved_by xs (start plan)).counts) place ≡ label_of plan c (rank c xs) place
+  pub label_by_rank : (c : Counter) (place : ℕ) → label_of plan c (count_of c (moved_by xs (start plan)).counts) place ≡ label_of plan c (rank c xs) place
   label_by_rank Uncounted place = refl
   label_by_rank Vector place = ap (λ n. label_of plan Vector n place) (count_is_rank Vector (λ e. search rules) refl)
   label_by_rank Mask place = ap (λ n. label_of plan Mask n place) (count_is_rank Mask (λ e. search rules) refl)
