@@ -43,6 +43,7 @@ impl<'a, S: NamingSource> Iterator for Entries<'a, S> {
 
     ghost remaining = { item_count (λ left. left) };
 
+    #[tactic(auto, using(crate::proofs::Fetched::fetched_rest, crate::proofs::Fetched::fetched_end, crate::proofs::Fetched::zip_below))]
     fn next(&mut self) -> Option<Entry> {
         let Ok(entry) = self.source.entry(self.next) else {
             return None;
