@@ -47,6 +47,7 @@ pub trait Source {
 pub trait NamingSource: Source {
     ghost names: { Self → List Name };
 
+    // A method and no law: a law is owed at every value of a ghost type, a method's clauses at the sources that there are.
     /// The count of both lists.
     fn naming_count(&self) -> u32
         ensures named { result ≡ length (names self.now) }

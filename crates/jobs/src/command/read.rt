@@ -1,10 +1,11 @@
 // A line of a job, read.
-ghost use Rattle.std.specs.Prelude.{◌≡◌};
+ghost use Rattle.std.specs.Prelude.{◌≡◌, ◌||◌, codes};
+ghost use Rattle.std.specs.Str.{bytes_eq};
 ghost use Rattle.jobs.specs.Commands.{blank, command_in, command_of, open_of, opened_at, passed_over, said, window_of, word_of};
 ghost use Rattle.jobs.specs.Fields.{texts_in};
 
 use super::{Command, Opening};
-use crate::fields::stretches;
+use crate::fields::{cut, stretches};
 use crate::row::{FIELDS, read_fields};
 use text::reading::read_decimal;
 
@@ -92,16 +93,30 @@ fn read_words<'a>(words: &[&'a [u8]]) -> Command<'a>
     }
 }
 
+// Whether other words follow this one in a line.
+fn leads(word: &[u8]) -> bool
+    ensures { result ≡ (bytes_eq word.now (codes "row") || (bytes_eq word.now (codes "open") || bytes_eq word.now (codes "segment"))) }
+{
+    word == b"row".as_slice() || word == b"open".as_slice() || word == b"segment".as_slice()
+}
+
 /// What a line says.
-#[tactic(auto, using(crate::proofs::ManyFields::many_fields))]
+#[tactic(auto, using(crate::proofs::ManyFields::many_fields, crate::proofs::FirstWord::first_word, crate::proofs::FirstWord::some_left, crate::proofs::FirstWord::word_alone, crate::proofs::FirstWord::open_alone))]
 pub fn read_command<'a>(line: &'a [u8]) -> Command<'a>
     ensures { said result ≡ command_of line.now }
 {
     if passed_over(line) {
         return Command::Nothing;
     }
-    match stretches::<FIELDS>(line, b' ') {
-        Some(words) => read_words(words.as_slice()),
-        None => Command::Unknown,
+    // By the first word before the others are looked for: what follows a word that is none of these may be long.
+    let (word, rest) = cut(line, b' ');
+    match rest {
+        None if word == b"open".as_slice() => Command::Open(Opening::default()),
+        None => read_word(word),
+        Some(_) if leads(word) => match stretches::<FIELDS>(line, b' ') {
+            Some(words) => read_words(words.as_slice()),
+            None => Command::Unknown,
+        },
+        Some(_) => Command::Unknown,
     }
 }
