@@ -1,11 +1,10 @@
 -- The laws of `overlay`, and what writes to a part of a slice make of it. Assumes nothing.
-use Rattle.std.proofs.Common.{◌≡◌, ℕ, ◌+◌, ◌-◌, ◌<◌, ◌≤◌, ⊎_elim, min, suc, List, [], ◌∷◌, ◌++◌, length, map, take, drop, set, sym, refl, ap, ◌∙◌, add-zero, add-one, arith, length-set, append_assoc}
+use Rattle.std.proofs.Common.{◌≡◌, ℕ, ◌+◌, ◌<◌, ◌≤◌, ⊎_elim, min, suc, List, [], ◌∷◌, ◌++◌, length, take, drop, set, sym, refl, ap, ◌∙◌, add-zero, add-one, arith, length-set, append_assoc}
 use lib.Seq.{set_out, sets, length-take-le}
-use borrow.Rule.Slice.PartMut.{put_mid, mid_of}
-use Rattle.std.proofs.lemmas.List.{take-append-drop, take-map, drop-drop, drop_all, length-map}
+use borrow.Rule.Slice.PartMut.{put_mid}
+use Rattle.std.proofs.lemmas.List.{take-append-drop, drop-drop, drop_all}
 use Rattle.std.proofs.lemmas.Bool.{cases_lt}
 use Rattle.std.proofs.lemmas.List.Edits.{sets-eq}
-use Rattle.std.proofs.lemmas.Slice.{take-put_mid_below, between-put_mid, drop-put_mid}
 use Rattle.text.specs.Wrote.{overlay}
 
 pub length-overlay : (xs : List ℕ) (i : ℕ) (t : List ℕ) → length (overlay xs i t) ≡ length xs
@@ -48,17 +47,3 @@ overlay-take xs i n t front some =
     (λ (none : length t ≤ n). ap (overlay (overlay xs i (take n t)) (i + length (take n t))) (drop_all n t none) ∙ overlay-none _ _)
     (cases_lt n (length t)) in
     sym past ∙ sym (overlay-append xs i (take n t) (drop n t)) ∙ ap (overlay xs i) (take-append-drop n t)
-
--- each byte of the text that has a place is changed by f there
-pub put_mid-map : (f : ℕ → ℕ) (i k : ℕ) (xs ys zs t : List ℕ) → ys ≡ overlay xs i t → i ≤ length xs → i + k ≡ min (i + length t) (length xs) → zs ≡ map f (mid_of i k ys) → put_mid i k ys zs ≡ overlay xs i (map f t)
-put_mid-map f i k xs ys zs t laid front some changed =
-    let size : length (take k t) ≡ k = length-take-le k t (omega arith) in
-    let room : i + k ≤ length xs = omega arith in
-    let count : k ≡ (i + k) - i = omega arith in
-    let over : ys ≡ put_mid i k xs (take k t) = laid ∙ sym (overlay-take xs i k t front some) ∙ sym (put_mid_overlay i k xs _ (take k t) refl (sym size) (omega arith)) in
-    let same : mid_of i k ys ≡ take k t = (λ j. take (count j) (drop i (over j))) ∙ between-put_mid i k xs (take k t) (i + k) front (size ∙ count) in
-    let before : take i ys ≡ take i xs = ap (take i) over ∙ take-put_mid_below i k xs (take k t) i (omega arith) front in
-    let after : drop k (drop i ys) ≡ drop k (drop i xs) = drop-drop k i ys ∙ ap (drop (i + k)) over ∙ drop-put_mid i k xs (take k t) (i + k) (omega arith) front size ∙ sym (drop-drop k i xs) in
-    let all : zs ≡ take k (map f t) = changed ∙ ap (map f) same ∙ sym (take-map f k t) in
-    let still : length (take k (map f t)) ≡ k = length-take-le k (map f t) (omega (arith, length-map t f)) in
-    (λ j. before j ++ (all j ++ after j)) ∙ put_mid_overlay i k xs _ _ refl (sym still) (omega arith) ∙ overlay-take xs i k (map f t) front (some ∙ ap (λ n. min (i + n) (length xs)) (sym (length-map t f)))

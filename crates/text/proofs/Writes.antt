@@ -72,15 +72,6 @@ nothing {w} = placed w w [] refl refl (omega arith) (omega (arith, w.inside))
 pub nothing_as : (w : Writer) (s : List ℕ) → s ≡ [] → WroteOr (full w) w s w (Ok tt)
 nothing_as w s is = subst (λ t. Wrote w t w (Ok tt)) (sym is) nothing
 
--- the same bytes with another text of the same length over them
-pub rewritten : {w v x : Writer} {t : List ℕ} (u : List ℕ) {r : Result (Unit {0}) WriteFault} → Wrote w t v r → length u ≡ length t → x.out.ghost_name ≡ v.out.ghost_name → x.out.now ≡ overlay w.out.now w.at u → x.at ≡ v.at → Wrote w u x r
-rewritten {w} {v} {x} {t} u p long same bytes place = let back = sym long in record {
-  lent = same ∙ p.lent;
-  bytes = bytes;
-  place = place ∙ p.place ∙ (λ i. min (w.at + back i) (length w.out.now));
-  answer = p.answer ∙ (λ i. cond (leb (w.at + back i) (length w.out.now)) (Ok tt) (Err (full w)));
-}
-
 -- where no byte has one
 pub no_place : (w : Writer) (b : ℕ) (t : List ℕ) → length w.out.now ≤ w.at → Wrote w (b ∷ t) w (Err (record { at = w.at }))
 no_place w b t none =
