@@ -133,7 +133,7 @@ mod tests {
 
     // The source has so many entries, and refuses the one after them with 14.
     fn ends<S: NamingSource>(rt: &impl Abort, source: &S, count: u32) {
-        assert_eq!(rt; source.count(), count);
+        assert_eq!(rt; (source.count(), source.naming_count()), (count, count));
         assert_eq!(rt; source.fetch(count), Err(SourceFault::NoEntry));
         assert_eq!(rt; source.fetch_naming(count), Err(SourceFault::NoEntry));
         assert_eq!(rt; shown_at(source, count), Err(SourceFault::NoEntry));

@@ -3,4 +3,5 @@
 
 pub mod checks;
 pub mod counting;
+pub mod own;
 pub mod writing;
