@@ -1,4 +1,4 @@
--- A line of more words than one, whose first no other follows.
+-- What the first word of a line says of the whole.
 use Rattle.std.proofs.Common.{◌≡◌, ℕ, ◌<◌, ◌==◌, true, false, refl, ◌||◌, List, length, codes, None, arith}
 use Rattle.std.specs.Str.{bytes_eq}
 use Rattle.std.proofs.lemmas.Bool.{or_parts}
@@ -9,11 +9,12 @@ use Rattle.jobs.specs.Commands.{command_in, opened, row_said, unknown, word_of}
 use Rattle.jobs.specs.Rows.{row_in}
 use Rattle.jobs.specs.Fields.{field, split}
 
--- something is left after a space
+-- what follows a space is one field at least
 pub some_left : (t : List ℕ) → 0 < length (split 32 t)
 unfolding split
 some_left t = omega (arith, length-slice_split (λ b. b == 32) t)
 
+-- a line of more words than one, whose first none follows
 pub first_word : (fs : List (List ℕ)) → (bytes_eq (field fs 0) (codes "row") || (bytes_eq (field fs 0) (codes "open") || bytes_eq (field fs 0) (codes "segment"))) ≡ false → 1 < length fs → command_in fs ≡ unknown
 unfolding command_in
 first_word fs h more = grind (arith, nat_tests, or_parts)
