@@ -14,14 +14,14 @@ use std::alloc::Global;
 use std::io;
 use std::io::{BufReader, BufWriter, Read, Write};
 
-// Performs the command of one line.
+// Performs the command of the line with this number.
 fn perform<'a, W: Write>(
     job: &mut Job<'a>,
     out: &mut W,
     number: u64,
-    line: &'a [u8],
+    command: &Command<'a>,
 ) -> io::Result<()> {
-    match read_command(line) {
+    match *command {
         Command::Nothing => Ok(()),
         Command::Row(form, naming) => {
             job.add(form, naming)?;
@@ -53,7 +53,11 @@ fn run<W: Write>(heap: Global, text: &[u8], out: &mut W) -> io::Result<()> {
     let mut rest = text;
     for number in 1..u64::MAX {
         let (line, after) = cut(rest, b'\n');
-        perform(&mut job, out, number, line)?;
+        // Lent, since a command is as large as a row.
+        let command = read_command(line);
+        if command != Command::Nothing {
+            perform(&mut job, out, number, &command)?;
+        }
         match after {
             Some(after) => rest = after,
             None => break,

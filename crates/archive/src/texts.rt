@@ -2,6 +2,7 @@
 use crate::check::refused;
 use crate::job::Job;
 use forms::entry::Entry;
+use forms::row::{FormRow, NamingRow};
 use lines::{OPCODE_BYTES, SIGNATURE_BYTES, checked, opcode_text, signature_text};
 use sources::entries::Entries;
 use sources::source::NamingSource;
@@ -19,13 +20,18 @@ fn print_texts<W: Write>(out: &mut W, k: usize, entry: &Entry) -> io::Result<()>
     out.write_all(b"\n")
 }
 
-// The command `texts`: the texts of each row, or why it has none.
+// The texts of a row, or why it has none.
+fn print_row<W: Write>(out: &mut W, k: usize, row: &FormRow, naming: &NamingRow) -> io::Result<()> {
+    match checked(row, naming) {
+        Ok(entry) => print_texts(out, k, &entry),
+        Err(fault) => refused(out, k, fault),
+    }
+}
+
+// The command `texts`.
 pub(crate) fn texts<W: Write>(job: &Job, out: &mut W) -> io::Result<()> {
     for (k, (row, naming)) in job.rows.iter().zip(&job.namings).enumerate() {
-        match checked(row, naming) {
-            Ok(entry) => print_texts(out, k, &entry)?,
-            Err(fault) => refused(out, k, fault)?,
-        }
+        print_row(out, k, row, naming)?;
     }
     Ok(())
 }

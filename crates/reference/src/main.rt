@@ -30,13 +30,14 @@ fn run<W: Write>(text: &[u8], out: &mut W) -> io::Result<()> {
         }
         let (line, after) = line_of(rest);
         rest = after;
-        match read_command(line) {
+        // Lent, since a command is as large as a row.
+        match &read_command(line) {
             Command::Nothing => {}
             Command::Row(form, naming) => {
                 let (op, after) = line_of(rest);
                 let (sig, after) = line_of(after);
                 rest = after;
-                if differs(out, rows, &form, &naming, op, sig)? {
+                if differs(out, rows, form, naming, op, sig)? {
                     differences += 1;
                 }
                 rows += 1;

@@ -1,8 +1,8 @@
 // A line of a job, read.
-ghost use Rattle.std.specs.Prelude.{◌≡◌, ◌||◌, codes};
+ghost use Rattle.std.specs.Prelude.{◌≡◌, ◌<◌, ◌||◌, codes, length};
 ghost use Rattle.std.specs.Str.{bytes_eq};
-ghost use Rattle.jobs.specs.Commands.{blank, command_in, command_of, open_of, opened_at, passed_over, said, window_of, word_of};
-ghost use Rattle.jobs.specs.Fields.{texts_in};
+ghost use Rattle.jobs.specs.Commands.{blank, command_in, command_of, open_of, opened_at, passed_over, said, window_of};
+ghost use Rattle.jobs.specs.Fields.{fields, texts_in};
 
 use super::{Command, Opening};
 use crate::fields::{cut, stretches};
@@ -58,25 +58,9 @@ fn read_open<'a>(words: &[&[u8]]) -> Command<'a>
     }
 }
 
-// Words are compared by `==`, as specs/Commands compares them: of byte-string patterns the check learns the single bytes,
-// and finds no proof for the arms after the second.
-#[tactic(auto, unfolding(crate::specs::Commands::word_of))]
-fn read_word<'a>(word: &[u8]) -> Command<'a>
-    ensures { said result ≡ word_of word.now }
-{
-    if word == b"check".as_slice() {
-        Command::Check
-    } else if word == b"texts".as_slice() {
-        Command::Texts
-    } else if word == b"entries".as_slice() {
-        Command::Entries
-    } else {
-        Command::Unknown
-    }
-}
-
 #[tactic(auto, unfolding(crate::specs::Commands::command_in))]
 fn read_words<'a>(words: &[&'a [u8]]) -> Command<'a>
+    requires { 1 < length words.now }
     ensures { said result ≡ command_in (texts_in words.now) }
 {
     match words {
@@ -85,7 +69,6 @@ fn read_words<'a>(words: &[&'a [u8]]) -> Command<'a>
             None => Command::Unknown,
         },
         [word, ..] if *word == b"open".as_slice() => read_open(words),
-        [word] => read_word(word),
         [word, name] if *word == b"segment".as_slice() && !name.is_empty() => Command::Segment(
             name,
         ),
@@ -100,23 +83,53 @@ fn leads(word: &[u8]) -> bool
     word == b"row".as_slice() || word == b"open".as_slice() || word == b"segment".as_slice()
 }
 
+// A line of more words than one, by all of them.
+#[tactic(auto, using(crate::proofs::ManyFields::many_fields))]
+fn read_all<'a>(line: &'a [u8]) -> Command<'a>
+    requires { 1 < length (fields line.now) }
+    ensures { said result ≡ command_in (fields line.now) }
+{
+    match stretches::<FIELDS>(line, b' ') {
+        Some(words) => read_words(words.as_slice()),
+        None => Command::Unknown,
+    }
+}
+
+// By the first word before the others are looked for: what follows a word that is none of these may be long.
+// Words are compared by `==`, as specs/Commands compares them: of byte-string patterns the check learns the single bytes,
+// and finds no proof for the arms after the second.
+#[tactic(auto, using(crate::proofs::FirstWord::first_word, crate::proofs::FirstWord::some_left, crate::proofs::FirstWord::word_alone, crate::proofs::FirstWord::open_alone), unfolding(crate::specs::Commands::word_of))]
+fn read_line<'a>(line: &'a [u8]) -> Command<'a>
+    ensures { said result ≡ command_in (fields line.now) }
+{
+    let (word, rest) = cut(line, b' ');
+    if rest.is_some() {
+        if leads(word) {
+            return read_all(line);
+        }
+        return Command::Unknown;
+    }
+    if word == b"open".as_slice() {
+        return Command::Open(Opening::default());
+    }
+    if word == b"check".as_slice() {
+        return Command::Check;
+    }
+    if word == b"texts".as_slice() {
+        return Command::Texts;
+    }
+    if word == b"entries".as_slice() {
+        return Command::Entries;
+    }
+    Command::Unknown
+}
+
 /// What a line says.
-#[tactic(auto, using(crate::proofs::ManyFields::many_fields, crate::proofs::FirstWord::first_word, crate::proofs::FirstWord::some_left, crate::proofs::FirstWord::word_alone, crate::proofs::FirstWord::open_alone))]
 pub fn read_command<'a>(line: &'a [u8]) -> Command<'a>
     ensures { said result ≡ command_of line.now }
 {
     if passed_over(line) {
         return Command::Nothing;
     }
-    // By the first word before the others are looked for: what follows a word that is none of these may be long.
-    let (word, rest) = cut(line, b' ');
-    match rest {
-        None if word == b"open".as_slice() => Command::Open(Opening::default()),
-        None => read_word(word),
-        Some(_) if leads(word) => match stretches::<FIELDS>(line, b' ') {
-            Some(words) => read_words(words.as_slice()),
-            None => Command::Unknown,
-        },
-        Some(_) => Command::Unknown,
-    }
+    read_line(line)
 }
