@@ -32,7 +32,8 @@ impl<S: Source> Window<S> {
 }
 
 impl<S> Window<S> {
-    // How many entries the window has over a source of so many.
+    // How many entries the window has over a source of so many. The count is handed in: a source may take long to count, and its
+    // names are counted apart.
     fn width(&self, count: u32) -> u32
         ensures { result ≡ window_count count self.now.from self.now.to }
     {
